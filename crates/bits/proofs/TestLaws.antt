@@ -1,0 +1,45 @@
+-- Laws of tests: how a chain of tests is taken apart and put together.
+--     and-left, and-right   a chain that holds has its parts
+--     and-both              the parts make the chain
+--     implied, implies      "not p, or q" is: if p then q
+--     every-at, at-every    a test at each index below n is the tests at all of them
+-- Assumes nothing.
+use Prim.Native.Nat.{ℕ, zero, suc, _<_}
+use mathlib.Core.Path.{_≡_, refl}
+use mathlib.Core.Bool.{Bool, true, false, not, _&&_, _||_, false≢true}
+use native.Mathlib.Omega.{arith}
+use Rattle.bits.specs.Bits.{every}
+
+pub and-left : (p q : Bool) → (p && q) ≡ true → p ≡ true
+and-left true q h = refl
+and-left false q h = absurd (false≢true h)
+
+pub and-right : (p q : Bool) → (p && q) ≡ true → q ≡ true
+and-right true q h = h
+and-right false q h = absurd (false≢true h)
+
+pub and-both : (p q : Bool) → p ≡ true → q ≡ true → (p && q) ≡ true
+and-both true q hp hq = hq
+and-both false q hp hq = hp
+
+pub implied : (p q : Bool) → (not p || q) ≡ true → p ≡ true → q ≡ true
+implied true q h hp = h
+implied false q h hp = absurd (false≢true hp)
+
+pub implies : (p q : Bool) → (p ≡ true → q ≡ true) → (not p || q) ≡ true
+implies true q h = h refl
+implies false q h = refl
+
+pub every-at : (n : ℕ) (f : ℕ → Bool) → every n f ≡ true → (i : ℕ) → i < n → f i ≡ true
+unfolding every
+every-at zero f h i k = absurd (omega arith)
+every-at (suc n) f h zero k = and-left (f 0) (every n (λ j. f (suc j))) h
+every-at (suc n) f h (suc i) k =
+    every-at n (λ j. f (suc j)) (and-right (f 0) (every n (λ j. f (suc j))) h) i (omega arith)
+
+pub at-every : (n : ℕ) (f : ℕ → Bool) → ((i : ℕ) → i < n → f i ≡ true) → every n f ≡ true
+unfolding every
+at-every zero f h = refl
+at-every (suc n) f h =
+    and-both (f 0) (every n (λ j. f (suc j))) (h 0 (omega arith))
+    (at-every n (λ j. f (suc j)) (λ i k. h (suc i) (omega arith)))

@@ -1,0 +1,27 @@
+-- The bytes of a number, the lowest first.
+--     document 01    "Registers": register 10's layout, which the acknowledges share
+--     byteAt w b     byte b of w, counted from the low end
+--     bytesOf w      the four bytes of a word: one for each branch
+--     bytes n v      the first n bytes of v, by division: the places of a queue
+--     allOf test l   every number of l passes the test
+-- Own rules of 01 used here: none. Decisions: none. Left out: nothing.
+-- Assumes nothing.
+use Prim.Native.Nat.{ℕ, zero, suc, _/_, _%_, _^_}
+use mathlib.Core.Bool.{Bool, true, _&&_}
+use mathlib.Core.List.{List, [], _∷_}
+use Rattle.bits.specs.Bits.{tabulate}
+
+-- [Registers.1] the byte of branch b + 1
+abbrev pub byteAt : (w b : ℕ) → ℕ
+byteAt w b = w / 256 ^ b % 256
+
+abbrev pub bytesOf : ℕ → List ℕ
+bytesOf w = tabulate 4 (byteAt w)
+
+unfoldable pub bytes : (n v : ℕ) → List ℕ
+bytes zero v = []
+bytes (suc n) v = v % 256 ∷ bytes n (v / 256)
+
+abbrev pub allOf : (ℕ → Bool) → List ℕ → Bool
+allOf test [] = true
+allOf test (w ∷ l) = test w && allOf test l
