@@ -1,7 +1,8 @@
 -- Laws of words seen as bits.
 --     or-at, and-at, xor-at      bit i of each operation of lib.Bits, from bit i of its two words
 --     set-at, clear-at           bit i of a word with bits set or cleared
---     shift-at, low-at           bit i of w / 2 ^ k is bit k + i of w; bit i of w % 2 ^ n is that of w below n
+--     shift-at, half-at          bit i of w / 2 ^ k is bit k + i of w; of w / 2 it is bit i + 1
+--     low-at                     bit i of w % 2 ^ n is that of w below n
 --     mask-at, mask-lt           bit i of the word that bits make is bit i of the rule; it has no further bit
 --     mask-of-bits               a word's own bits make the word again, cut to the width
 --     tabulate-at, -past, -length, -getD   the elements of a table
@@ -102,7 +103,7 @@ halved : (t : Bool) (m : ℕ) → (oneIfOf t + 2 * m) / 2 ≡ m
 halved true m = omega arith
 halved false m = omega arith
 
-half-at : (w i : ℕ) → bitAt w (suc i) ≡ bitAt (w / 2) i
+pub half-at : (w i : ℕ) → bitAt w (suc i) ≡ bitAt (w / 2) i
 half-at w i = rw (pow-succ' 2 i, ← div-div-eq-div-mul w 2 (2 ^ i))
 
 -- ---- words and tables made by index

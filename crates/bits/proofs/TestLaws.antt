@@ -3,12 +3,16 @@
 --     and-both              the parts make the chain
 --     implied, implies      "not p, or q" is: if p then q
 --     every-at, at-every    a test at each index below n is the tests at all of them
+--     all-true-at           a list of tests that all hold has each of them, by its place
+--     or-true, or-rest      a second test that holds makes the choice hold; a first that fails leaves the second
 -- Assumes nothing.
 use Prim.Native.Nat.{ℕ, zero, suc, _<_}
 use mathlib.Core.Path.{_≡_, refl}
-use mathlib.Core.Bool.{Bool, true, false, not, _&&_, _||_, false≢true}
+use mathlib.Core.Bool.{Bool, true, false, not, _&&_, _||_, true≢false, false≢true}
+use mathlib.Core.List.{List, [], _∷_}
 use native.Mathlib.Omega.{arith}
-use Rattle.bits.specs.Bits.{every}
+use lib.ListN.{length, getD}
+use Rattle.bits.specs.Bits.{every, allTrue}
 
 pub and-left : (p q : Bool) → (p && q) ≡ true → p ≡ true
 and-left true q h = refl
@@ -43,3 +47,16 @@ at-every zero f h = refl
 at-every (suc n) f h =
     and-both (f 0) (every n (λ j. f (suc j))) (h 0 (omega arith))
     (at-every n (λ j. f (suc j)) (λ i k. h (suc i) (omega arith)))
+
+pub all-true-at : (ts : List Bool) → allTrue ts ≡ true → (i : ℕ) → i < length ts → getD ts i false ≡ true
+all-true-at [] h i k = absurd (omega arith)
+all-true-at (t ∷ ts) h zero k = and-left t (allTrue ts) h
+all-true-at (t ∷ ts) h (suc i) k = all-true-at ts (and-right t (allTrue ts) h) i (omega arith)
+
+pub or-true : (p q : Bool) → q ≡ true → (p || q) ≡ true
+or-true true q h = refl
+or-true false q h = h
+
+pub or-rest : (p q : Bool) → (p || q) ≡ true → p ≡ false → q ≡ true
+or-rest true q h k = absurd (true≢false k)
+or-rest false q h k = h

@@ -5,6 +5,7 @@
 --     maskOf n f         the word whose bit i, for each i below n, is f i
 --     tabulate n f       the list f 0, f 1, .., n of them
 --     every n f          f holds at each i below n
+--     allTrue ts         every test of a list holds
 --     setOf, clearOf     a word with the bits of another one set, or cleared
 --     fitsIn n w         w has no bit outside n bits
 --     hasOnly m w        w has no bit outside those of m
@@ -43,6 +44,10 @@ tabulate (suc n) f = f 0 ∷ tabulate n (λ i. f (suc i))
 unfoldable pub every : (n : ℕ) → (ℕ → Bool) → Bool
 every zero f = true
 every (suc n) f = f 0 && every n (λ i. f (suc i))
+
+abbrev pub allTrue : List Bool → Bool
+allTrue [] = true
+allTrue (t ∷ ts) = t && allTrue ts
 
 -- ---- bits set and cleared
 

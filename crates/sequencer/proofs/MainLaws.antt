@@ -1,0 +1,286 @@
+-- Laws of the main sequencer: what every step keeps.
+--     step-decides-event         an undecided event is cleared, loaded or still undecided after the step
+--     step-loads-in-order        a load comes where a queue may take it; a state that waits for the branches is left by
+--                                the test on them
+--     to-idle-zeroes             a move to Idle leaves nothing of the event
+--     idle-stays                 at Idle the step changes nothing
+--     fail-beats-pass2, fail-beats-pass3, pass3-keeps-accept2, word-is-six-bit   single rules
+--     step-, aged-, accepted-keeps-well-formed   what of main spoils a record does not come about
+-- Assumes nothing.
+use Prim.Native.Nat.{ℕ, _+_, _*_, _/_, _%_, _^_, _<_, _≤_}
+use mathlib.Core.Path.{_≡_, refl, sym, ap, _∙_}
+use mathlib.Core.Bool.{Bool, true, false, not, _&&_, _||_, false≢true, true≢false}
+use mathlib.Core.List.{List, [], _∷_}
+use native.Mathlib.Omega.{arith}
+use native.Mathlib.Nat.{mod-lt}
+use lib.Dec.{eqb, ltb, lit<, lit≤}
+use lib.ListN.{getD}
+use borrow.Author.Tests.{ltb-true, not-true}
+use Rattle.bits.specs.Notation.{if_then_else_, _▷_}
+use Rattle.bits.specs.Bits.{bitAt, oneIfOf, allTrue}
+use Rattle.bits.proofs.TestLaws.{and-right, implied, all-true-at, or-true, or-rest}
+use Rattle.bits.proofs.BitsLaws.{set-at}
+use Rattle.sequencer.specs.MemoryWord.{classInOf, codeIn, acceptIn, isOkWord}
+use Rattle.sequencer.specs.MainFields.{quiet, withAge, withState, withClass, withCode, withAccept}
+use Rattle.sequencer.specs.States.{isIdle, isUndecided, isLoaded, isWait2, isCleared, isEvent, isTag}
+use Rattle.sequencer.specs.MainSequencer.{ageLimit, codeLimit, okLine, start2Line, raise}
+use Rattle.sequencer.specs.MainSequencer.{accept2Line, accept3Line, isRaised, idleOf, agedOf, acceptedOf}
+use Rattle.sequencer.specs.MainSequencer.{Move, waitsInDelay, endsDelay, passes2ToDelay, passes2ToWait3, passes3}
+use Rattle.sequencer.specs.MainSequencer.{moveInWait2, moveInWait3, moveIn, wordOf, afterLoad, stepBy, stepOf}
+use Rattle.sequencer.specs.MainSequencer.{WellFormedMain}
+use Rattle.sequencer.specs.declared.main_sequencer.State.{State}
+use Rattle.sequencer.specs.declared.main_sequencer.State.the-variants.{Idle, Delay, Wait2, Wait3}
+use Rattle.sequencer.specs.declared.main_sequencer.State.the-variants.{Front, Space, SyncHold, Clear}
+use Rattle.sequencer.specs.declared.main_sequencer.MainSequencer.{MainSequencer}
+use Rattle.sequencer.specs.declared.main_sequencer.Tests.{Tests}
+use Rattle.sequencer.specs.declared.main_sequencer.MainStep.{MainStep}
+use Rattle.sequencer.proofs.MainMoves.{MovesIn, staysIn, delayWaits, delayEnds, wait2FailsLate, wait2Fails}
+use Rattle.sequencer.proofs.MainMoves.{wait2ToDelay, wait2ToWait3, wait3FailsLate, wait3Fails, wait3Passes}
+use Rattle.sequencer.proofs.MainMoves.{frontLoads, spaceLeaves, syncHoldEnds, clearCounts, clearEnds}
+use Rattle.sequencer.proofs.MainMoves.{move-is-one-of}
+
+-- ---- what follows, move by move; `m ▷ withState g` is any sequencer at g
+
+not-undecided-after-load : (sync : Bool) → isUndecided (afterLoad sync) ≡ false
+not-undecided-after-load true = refl
+not-undecided-after-load false = refl
+
+loaded-after-load : (sync : Bool) → isLoaded (afterLoad sync) ≡ true
+loaded-after-load true = refl
+loaded-after-load false = refl
+
+-- how cleared, loaded and undecided events go on
+abbrev Decides : State → MainStep → Type 0
+Decides g s =
+    oneIfOf (isUndecided g)
+    ≡ oneIfOf (isCleared (s .outcome)) + oneIfOf (isEvent (s .outcome)) + oneIfOf (isUndecided (s .next .state))
+
+-- a load, a tag, a state that waits for the branches, the end of Sync hold: what each goes with
+abbrev rules : Tests → State → MainStep → List Bool
+rules t g s =
+    (not (isEvent (s .outcome)) || not (isLoaded g))
+    ∷ (not (isEvent (s .outcome)) || isLoaded (s .next .state))
+    ∷ not (isTag (s .outcome))
+    ∷ (not (isLoaded g) || (isLoaded (s .next .state) || (t .room || t .empty)))
+    ∷ (not (s .ended) || t .empty)
+    ∷ []
+
+stays-in-order : (loaded room : Bool) → ((not loaded || (loaded || room)) && true) ≡ true
+stays-in-order true room = refl
+stays-in-order false room = refl
+
+not-idle-after-load : (sync : Bool) → isIdle (afterLoad sync) ≡ false
+not-idle-after-load true = refl
+not-idle-after-load false = refl
+
+module _ (t : Tests) (m : MainSequencer) where
+  decides : {g : State} {v : Move} → MovesIn t g v → Decides g (stepBy v t (m ▷ withState g))
+  decides (staysIn g) = omega arith
+  decides delayWaits = refl
+  decides delayEnds = refl
+  decides wait2FailsLate = refl
+  decides wait2Fails = refl
+  decides wait2ToDelay = refl
+  decides wait2ToWait3 = refl
+  decides wait3FailsLate = refl
+  decides wait3Fails = refl
+  decides wait3Passes = refl
+  decides frontLoads = rw (not-undecided-after-load (t .sync))
+  decides (spaceLeaves h) = refl
+  decides (syncHoldEnds h) = refl
+  decides clearCounts = refl
+  decides clearEnds = refl
+
+  in-order : {g : State} {v : Move} → MovesIn t g v → allTrue (rules t g (stepBy v t (m ▷ withState g))) ≡ true
+  in-order (staysIn g) = stays-in-order (isLoaded g) (t .room || t .empty)
+  in-order delayWaits = refl
+  in-order delayEnds = refl
+  in-order wait2FailsLate = refl
+  in-order wait2Fails = refl
+  in-order wait2ToDelay = refl
+  in-order wait2ToWait3 = refl
+  in-order wait3FailsLate = refl
+  in-order wait3Fails = refl
+  in-order wait3Passes = refl
+  in-order frontLoads = rw (loaded-after-load (t .sync))
+  in-order (spaceLeaves h) = rw h
+  in-order (syncHoldEnds h) = rw (or-true (t .room) (t .empty) h, h)
+  in-order clearCounts = refl
+  in-order clearEnds = refl
+
+  zeroes : {g : State} {v : Move} → MovesIn t g v → isIdle g ≡ false
+      → isIdle (stepBy v t (m ▷ withState g) .next .state) ≡ true → stepBy v t (m ▷ withState g) .next ≡ idleOf
+  zeroes (staysIn g) h k = absurd (true≢false (sym k ∙ h))
+  zeroes delayWaits h k = absurd (false≢true k)
+  zeroes delayEnds h k = absurd (false≢true k)
+  zeroes wait2FailsLate h k = absurd (false≢true k)
+  zeroes wait2Fails h k = absurd (false≢true k)
+  zeroes wait2ToDelay h k = absurd (false≢true k)
+  zeroes wait2ToWait3 h k = absurd (false≢true k)
+  zeroes wait3FailsLate h k = absurd (false≢true k)
+  zeroes wait3Fails h k = absurd (false≢true k)
+  zeroes wait3Passes h k = absurd (false≢true k)
+  zeroes frontLoads h k = absurd (true≢false (sym k ∙ not-idle-after-load (t .sync)))
+  zeroes (spaceLeaves r) h k = refl
+  zeroes (syncHoldEnds r) h k = refl
+  zeroes clearCounts h k = absurd (false≢true k)
+  zeroes clearEnds h k = refl
+
+  -- ---- the step itself
+
+  taken : MovesIn t (m .state) (moveIn (m .state) t m)
+  taken = move-is-one-of (m .state) t m
+
+  -- [Account.14] accepted events are cleared, loaded or undecided
+  pub step-decides-event : Decides (m .state) (stepOf t m)
+  unfolding stepOf
+  step-decides-event = decides taken
+
+  step-in-order : allTrue (rules t (m .state) (stepOf t m)) ≡ true
+  unfolding stepOf
+  step-in-order = in-order taken
+
+  -- [Main.17]
+  pub to-idle-zeroes : isIdle (m .state) ≡ false → isIdle (stepOf t m .next .state) ≡ true → stepOf t m .next ≡ idleOf
+  unfolding stepOf
+  to-idle-zeroes = zeroes taken
+
+  pub idle-stays : m .state ≡ Idle → stepOf t m ≡ quiet m
+  unfolding stepOf
+  idle-stays h = ap (λ (g : State). stepBy (moveIn g t m) t m) h
+
+  -- [Spoiled.1f] where a load happens a queue holds seven words at most; after it eight are allowed
+  pub record LoadsInOrder : Type 0 where
+    pub loadBefore : isEvent (stepOf t m .outcome) ≡ true → isLoaded (m .state) ≡ false
+    pub loadAfter : isEvent (stepOf t m .outcome) ≡ true → isLoaded (stepOf t m .next .state) ≡ true
+    pub noTag : isTag (stepOf t m .outcome) ≡ false
+    pub leaves : isLoaded (m .state) ≡ true → isLoaded (stepOf t m .next .state) ≡ false → (t .room || t .empty) ≡ true
+    pub ends : stepOf t m .ended ≡ true → t .empty ≡ true
+
+  rule : (i : ℕ) → i < 5 → getD (rules t (m .state) (stepOf t m)) i false ≡ true
+  rule = all-true-at (rules t (m .state) (stepOf t m)) step-in-order
+
+  pub step-loads-in-order : LoadsInOrder
+  step-loads-in-order =
+      let s : MainStep = stepOf t m in
+      let event : Bool = isEvent (s .outcome) in
+      let after : Bool = isLoaded (s .next .state) in
+      let leave = implied (isLoaded (m .state)) (after || (t .room || t .empty)) (rule 3 (lit< tt)) in
+      record {
+        loadBefore = λ h. not-true (isLoaded (m .state)) (implied event (not (isLoaded (m .state))) (rule 0 (lit< tt)) h);
+        loadAfter = implied event after (rule 1 (lit< tt));
+        noTag = not-true (isTag (s .outcome)) (rule 2 (lit< tt));
+        leaves = λ h k. or-rest after (t .room || t .empty) (leave h) k;
+        ends = implied (s .ended) (t .empty) (rule 4 (lit< tt));
+      }
+
+-- ---- single rules
+
+-- [Main.3] whatever the pass line says
+pub fail-beats-pass2 : (late pass class2 : Bool) → moveInWait2 true late pass class2 ≡ moveInWait2 true late false false
+fail-beats-pass2 true pass class2 = refl
+fail-beats-pass2 false pass class2 = refl
+
+pub fail-beats-pass3 : (late pass : Bool) → moveInWait3 true late pass ≡ moveInWait3 true late false
+fail-beats-pass3 true pass = refl
+fail-beats-pass3 false pass = refl
+
+-- [Main.5] level 2 accept is not Wait 3's to raise
+pub pass3-keeps-accept2 : (t : Tests) (m : MainSequencer)
+    → isRaised accept2Line (stepBy passes3 t m .next) ≡ isRaised accept2Line m
+pass3-keeps-accept2 t m =
+    set-at (2 ^ accept3Line) (m .raised) accept2Line ∙ or-false (isRaised accept2Line m)
+  where
+    or-false : (a : Bool) → (a || false) ≡ a
+    or-false true = refl
+    or-false false = refl
+
+-- [Main.9]
+pub word-is-six-bit : (sync : Bool) (m : MainSequencer) → wordOf sync m ≤ 63
+word-is-six-bit sync m = go sync (m .late)
+  where
+    low : m .code % 16 < 16
+    low = mod-lt (m .code) (lit< tt)
+
+    go : (sync late : Bool) → m .code % 16 + 16 * oneIfOf sync + 32 * oneIfOf late ≤ 63
+    go true true = omega arith
+    go true false = omega arith
+    go false true = omega arith
+    go false false = omega arith
+
+-- ---- what of main spoils a record does not come about
+
+pub idle-is-well-formed : WellFormedMain idleOf
+idle-is-well-formed = record { code = lit≤ tt; class = λ w. absurd (false≢true w); age = lit≤ tt }
+
+not-wait2-after-load : (sync : Bool) → isWait2 (afterLoad sync) ≡ false
+not-wait2-after-load true = refl
+not-wait2-after-load false = refl
+
+module _ (t : Tests) (m : MainSequencer) (code : m .code ≤ codeLimit) (age : m .age ≤ ageLimit) where
+  -- what a move leaves at g, with the code and the age that were
+  at : (n : MainSequencer) → n .code ≡ m .code → n .age ≡ m .age → isWait2 (n .state) ≡ false → WellFormedMain n
+  at n c a w =
+      record { code = rw c code; class = λ h. absurd (true≢false (sym h ∙ w)); age = rw a age }
+
+  keeps-well-formed : {g : State} {v : Move} → MovesIn t g v → WellFormedMain (m ▷ withState g)
+      → WellFormedMain (stepBy v t (m ▷ withState g) .next)
+  keeps-well-formed (staysIn g) h = h
+  keeps-well-formed delayWaits h = at _ refl refl refl
+  keeps-well-formed delayEnds h = at _ refl refl refl
+  keeps-well-formed wait2FailsLate h = at _ refl refl refl
+  keeps-well-formed wait2Fails h = at _ refl refl refl
+  keeps-well-formed wait2ToDelay h = at _ refl refl refl
+  keeps-well-formed wait2ToWait3 h = at _ refl refl refl
+  keeps-well-formed wait3FailsLate h = at _ refl refl refl
+  keeps-well-formed wait3Fails h = at _ refl refl refl
+  keeps-well-formed wait3Passes h = at _ refl refl refl
+  keeps-well-formed frontLoads h = at _ refl refl (not-wait2-after-load (t .sync))
+  keeps-well-formed (spaceLeaves r) h = idle-is-well-formed
+  keeps-well-formed (syncHoldEnds r) h = idle-is-well-formed
+  keeps-well-formed clearCounts h = at _ refl refl refl
+  keeps-well-formed clearEnds h = idle-is-well-formed
+
+pub step-keeps-well-formed : (t : Tests) (m : MainSequencer) → WellFormedMain m → WellFormedMain (stepOf t m .next)
+unfolding stepOf
+step-keeps-well-formed t m h = keeps-well-formed t m (h .code) (h .age) (move-is-one-of (m .state) t m) h
+
+pub aged-keeps-well-formed : (m : MainSequencer) → WellFormedMain m → WellFormedMain (agedOf m)
+unfolding agedOf
+aged-keeps-well-formed m h = go (not (isIdle (m .state))) (ltb (m .age) ageLimit) refl
+  where
+    go : (cycle below : Bool) → ltb (m .age) ageLimit ≡ below
+        → WellFormedMain (if cycle && below then m ▷ withAge (m .age + 1) else m)
+    go true true e =
+        record { code = h .code; class = h .class; age = omega (arith, ltb-true (m .age) ageLimit e) }
+    go true false e = h
+    go false below e = h
+
+-- an accepted word has a class, so Wait 2 is entered in class 2 or 3
+class-of-ok : (b1 b2 b3 : Bool) → (b1 || (b2 || b3)) ≡ true
+    → eqb (if b1 then 1 else if b2 then 2 else if b3 then 3 else 0) 1 ≡ false
+    → (eqb (if b1 then 1 else if b2 then 2 else if b3 then 3 else 0) 2
+    || eqb (if b1 then 1 else if b2 then 2 else if b3 then 3 else 0) 3) ≡ true
+class-of-ok true b2 b3 h k = absurd (true≢false k)
+class-of-ok false true b3 h k = refl
+class-of-ok false false true h k = refl
+class-of-ok false false false h k = absurd (false≢true h)
+
+pub accepted-keeps-well-formed : (w : ℕ) (m : MainSequencer) → isOkWord w ≡ true → WellFormedMain (acceptedOf w m)
+unfolding acceptedOf classInOf
+accepted-keeps-well-formed w m ok = go (eqb (classInOf w) 1) refl
+  where
+    low : codeIn w ≤ codeLimit
+    low = omega arith
+
+    some : (bitAt w 1 || (bitAt w 2 || bitAt w 3)) ≡ true
+    some = and-right (bitAt w 0) (bitAt w 1 || (bitAt w 2 || bitAt w 3)) ok
+
+    entered : MainSequencer → Bool → MainSequencer
+    entered n one = if one then n ▷ raise okLine ▷ withState Delay else n ▷ raise okLine ▷ raise start2Line ▷ withState Wait2
+
+    go : (one : Bool) → eqb (classInOf w) 1 ≡ one
+        → WellFormedMain (entered (m ▷ withAge 0 ▷ withClass (classInOf w) ▷ withCode (codeIn w) ▷ withAccept (acceptIn w)) one)
+    go true e = record { code = low; class = λ h. absurd (false≢true h); age = lit≤ tt }
+    go false e =
+        record { code = low; class = λ h. class-of-ok (bitAt w 1) (bitAt w 2) (bitAt w 3) some e; age = lit≤ tt }

@@ -1,0 +1,14 @@
+-- `sequencer::main_sequencer::MainSequencer::failed` meets its contract: the literal is the cleared step, field by field.
+-- Written by tools/prove.py; no answer was changed by hand. Assumes nothing.
+use borrow.Author.Needs.{needs}
+use Rattle.sequencer.proofs.main_sequencer.MainSequencer.failed.Statement.{statement}
+use Rattle.sequencer.proofs.main_sequencer.MainSequencer.failed.Tie as tie
+
+with-state-requires : tie.Need-with-state-requires
+with-state-requires c κs = search needs
+
+returns : tie.Need-returns
+returns c = rw (c .with-state .ensures)
+
+pub failed-spec : {M : Type 1} → statement M
+failed-spec = tie.close (tie.spec with-state-requires returns)

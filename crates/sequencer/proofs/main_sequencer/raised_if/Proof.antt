@@ -1,0 +1,14 @@
+-- `sequencer::main_sequencer::raised_if` meets its contract: one return for each choice.
+-- Written by tools/prove.py; no answer was changed by hand. Assumes nothing.
+use borrow.Author.Needs.{needs}
+use Rattle.sequencer.proofs.main_sequencer.raised_if.Statement.{statement}
+use Rattle.sequencer.proofs.main_sequencer.raised_if.Tie as tie
+
+returns : tie.Need-returns
+returns c = rw (c .if1 .taken)
+
+returns-2 : tie.Need-returns-2
+returns-2 c = search needs
+
+pub raised-if-spec : {M : Type 1} → statement M
+raised-if-spec = tie.close (tie.spec returns returns-2)

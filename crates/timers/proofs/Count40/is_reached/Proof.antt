@@ -1,0 +1,14 @@
+-- `timers::Count40::is_reached` meets its contract: the ticks are what their call ensures.
+-- Written by tools/prove.py; no answer was changed by hand. Assumes nothing.
+use borrow.Author.Needs.{needs}
+use Rattle.timers.proofs.Count40.is_reached.Statement.{statement}
+use Rattle.timers.proofs.Count40.is_reached.Tie as tie
+
+ticks-requires : tie.Need-ticks-requires
+ticks-requires c κs = search needs
+
+returns : tie.Need-returns
+returns c = rw (c .ticks .ensures)
+
+pub is-reached-spec : {M : Type 1} → statement M
+is-reached-spec = tie.close (tie.spec ticks-requires returns)

@@ -1,0 +1,14 @@
+-- `timers::Timers::front_test` meets its contract: T4's own test, between the two others.
+-- Written by tools/prove.py; no answer was changed by hand. Assumes nothing.
+use borrow.Author.Needs.{needs}
+use Rattle.timers.proofs.Timers.front_test.Statement.{statement}
+use Rattle.timers.proofs.Timers.front_test.Tie as tie
+
+is-reached-requires : tie.Need-is-reached-requires
+is-reached-requires c κs = search needs
+
+returns : tie.Need-returns
+returns c = rw (c .is-reached .ensures)
+
+pub front-test-spec : {M : Type 1} → statement M
+front-test-spec = tie.close (tie.spec is-reached-requires returns)

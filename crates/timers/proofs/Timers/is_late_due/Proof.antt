@@ -1,0 +1,14 @@
+-- `timers::Timers::is_late_due` meets its contract: T1's own test, where it is in use.
+-- Written by tools/prove.py; no answer was changed by hand. Assumes nothing.
+use borrow.Author.Needs.{needs}
+use Rattle.timers.proofs.Timers.is_late_due.Statement.{statement}
+use Rattle.timers.proofs.Timers.is_late_due.Tie as tie
+
+is-reached-requires : tie.Need-is-reached-requires
+is-reached-requires c κs = search needs
+
+returns : tie.Need-returns
+returns c = rw (c .is-reached .ensures)
+
+pub is-late-due-spec : {M : Type 1} → statement M
+is-late-due-spec = tie.close (tie.spec is-reached-requires returns)
