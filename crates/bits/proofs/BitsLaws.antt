@@ -7,6 +7,8 @@
 --     mask-of-bits               a word's own bits make the word again, cut to the width
 --     tabulate-at, -past, -length, -getD   the elements of a table
 --     mask-same, mask-none, tabulate-same  rules that agree below n make the same word, the same table
+--     mask-wider                 a rule that holds nowhere from n on makes the same word at a greater width
+--     clear-mask                 a word with a mask cleared, by its rule
 --     words-equal-by-bits        two words are equal if all their bits are
 --     run-at                     bit i of a run of bits
 -- Assumes nothing.
@@ -22,7 +24,7 @@ use lib.Bits.{shifted-half, shifted-even, and-mask}
 use lib.Pow.{pow-pos, shr-shr}
 use lib.ListN.{length, getD}
 use lib.Dec.{eqb, ltb, leb, lit<, leb·zero, leb·suc-zero, leb·suc-suc}
-use borrow.Author.Tests.{eq-eqb, ne-eqb, lt-ltb, eqb-false}
+use borrow.Author.Tests.{eq-eqb, ne-eqb, lt-ltb, eqb-false, ltb-true, ltb-false}
 use Rattle.bits.specs.Bits.{bitAt, bitsFrom, oneIfOf, maskOf, tabulate, setOf, clearOf}
 
 -- ---- one operation of lib.Bits, bit by bit
@@ -260,3 +262,30 @@ low-at n w i =
 pub mask-of-bits : (n w : ℕ) → maskOf n (bitAt w) ≡ w % 2 ^ n
 mask-of-bits n w =
     words-equal-by-bits (maskOf n (bitAt w)) (w % 2 ^ n) (λ i. mask-at n (bitAt w) i ∙ sym (low-at n w i))
+
+-- ---- masks at another width, and cleared
+
+and-false : (t : Bool) → (t && false) ≡ false
+and-false true = refl
+and-false false = refl
+
+pub mask-wider : (n m : ℕ) (f : ℕ → Bool) → n ≤ m → ((i : ℕ) → n ≤ i → f i ≡ false) → maskOf n f ≡ maskOf m f
+mask-wider n m f wide none =
+    words-equal-by-bits (maskOf n f) (maskOf m f) (λ i. mask-at n f i ∙ go i (ltb i n) refl ∙ sym (mask-at m f i))
+  where
+    go : (i : ℕ) (t : Bool) → ltb i n ≡ t → (t && f i) ≡ (ltb i m && f i)
+    go i true e = ap (λ (t : Bool). t && f i) (sym (lt-ltb i m (omega (arith, ltb-true i n e))))
+    go i false e = sym (ap (λ (t : Bool). ltb i m && t) (none i (ltb-false i n e)) ∙ and-false (ltb i m))
+
+pub clear-mask : (n w : ℕ) (f : ℕ → Bool) → clearOf (maskOf n f) (w % 2 ^ n) ≡ maskOf n (λ i. bitAt w i && not (f i))
+clear-mask n w f =
+    words-equal-by-bits (clearOf (maskOf n f) (w % 2 ^ n)) (maskOf n (λ i. bitAt w i && not (f i)))
+    (λ i.
+    clear-at (maskOf n f) (w % 2 ^ n) i
+    ∙ ap₂ (λ (t u : Bool). t && not u) (low-at n w i) (mask-at n f i)
+    ∙ within (ltb i n) (bitAt w i) (f i)
+    ∙ sym (mask-at n (λ i. bitAt w i && not (f i)) i))
+  where
+    within : (t a b : Bool) → ((t && a) && not (t && b)) ≡ (t && (a && not b))
+    within true a b = refl
+    within false a b = refl

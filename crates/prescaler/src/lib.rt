@@ -1,0 +1,202 @@
+// The prescalers of inputs 1–8 (document 01, "The tick", Pulses): of F + 1 counted pulses the last passes.
+// The bank goes in by value and comes back. Every contract is an equality with a definition of specs/.
+ghost use mathlib.Core.Path.{_≡_};
+ghost use mathlib.Core.Bool.{true};
+ghost use Rattle.prescaler.specs.Prescaler.{freshOf, withFactorOf, reloadedOf};
+ghost use Rattle.prescaler.specs.Prescaler.{pulseOf, gatheredOf, stepOf, hasCountersWithinOf};
+
+// Place i is input i + 1.
+pub struct Prescalers {
+    pub counters: [u32; 8],
+    pub factors: [u32; 8],
+}
+
+// The next bank, and the counted pulses of all twelve inputs by what became of them: bit i is input i + 1.
+pub struct Prescaled {
+    pub next: Prescalers,
+    pub stopped: u32,
+    pub scaled: u32,
+    pub passed: u32,
+}
+
+// What a pulse did to one prescaler.
+pub struct Counted {
+    pub counter: u32,
+    pub scaled: bool,
+}
+
+// [Pulses.3] [Pulses.4] one prescaler of a bank that runs
+fn pulse(counted: bool, counter: u32, factor: u32) -> Counted
+    ensures { λ r. ⌜ r ≡ pulseOf counted counter factor ⌝ }
+{
+    if counted {
+        if 0 < counter {
+            let less = counter - 1;
+            return Counted {
+                counter: less,
+                scaled: true,
+            };
+        }
+        return Counted {
+            counter: factor,
+            scaled: false,
+        };
+    }
+    Counted {
+        counter,
+        scaled: false,
+    }
+}
+
+impl Prescalers {
+    // [Tick.1] [Registers.1] how many inputs there are, and how many of them have a prescaler
+    pub const INPUTS: u32 = 12;
+
+    pub const PRESCALED_INPUTS: u32 = 8;
+
+    // the bits of all inputs, and of those with a prescaler: no bit is at or above these
+    const INPUTS_LIMIT: u32 = 4096;
+
+    const PRESCALED_LIMIT: u32 = 256;
+
+    // [Registers.4] every counter and factor 0
+    pub fn fresh() -> Prescalers
+        ensures { λ r. ⌜ r ≡ freshOf ⌝ }
+    {
+        Prescalers {
+            counters: [0u32; 8],
+            factors: [0u32; 8],
+        }
+    }
+
+    // [Registers.2] the input is counted from 1; one without a prescaler changes nothing
+    pub fn with_factor(self, input: u32, factor: u32) -> Prescalers
+        ensures { λ r. ⌜ r ≡ withFactorOf input factor self ⌝ }
+    {
+        if 1 <= input {
+            if input <= Prescalers::PRESCALED_INPUTS {
+                let place = (input - 1) as usize;
+                let mut next = self;
+                next.counters[place] = factor;
+                next.factors[place] = factor;
+                return next;
+            }
+        }
+        self
+    }
+
+    // [CSRWrite.2d] every counter loaded
+    pub fn reloaded(self) -> Prescalers
+        ensures { λ r. ⌜ r ≡ reloadedOf self ⌝ }
+    {
+        let factors = self.factors;
+        Prescalers {
+            counters: factors,
+            factors,
+        }
+    }
+
+    fn gathered(self, all: [Counted; 8], pulses: u32) -> Prescaled
+        ensures { λ r. ⌜ r ≡ gatheredOf all pulses self ⌝ }
+    {
+        let factors = self.factors;
+        let p0 = all[0];
+        let p1 = all[1];
+        let p2 = all[2];
+        let p3 = all[3];
+        let p4 = all[4];
+        let p5 = all[5];
+        let p6 = all[6];
+        let p7 = all[7];
+        let scaled = bits::mask8([
+            p0.scaled,
+            p1.scaled,
+            p2.scaled,
+            p3.scaled,
+            p4.scaled,
+            p5.scaled,
+            p6.scaled,
+            p7.scaled,
+        ]);
+        let counters = [
+            p0.counter,
+            p1.counter,
+            p2.counter,
+            p3.counter,
+            p4.counter,
+            p5.counter,
+            p6.counter,
+            p7.counter,
+        ];
+        let next = Prescalers { counters, factors };
+        let passed = bits::clear(pulses % Prescalers::INPUTS_LIMIT, scaled);
+        Prescaled {
+            next,
+            stopped: 0,
+            scaled,
+            passed,
+        }
+    }
+
+    // All eight prescalers, each by itself: a loop over the pulses that are there would be slower.
+    fn counted_down(self, pulses: u32) -> Prescaled
+        ensures { λ r. ⌜ r ≡ stepOf true pulses self ⌝ }
+    {
+        let c = self.counters;
+        let f = self.factors;
+        self.gathered(
+            [
+                pulse(pulses / 1 % 2 == 1, c[0], f[0]),
+                pulse(pulses / 2 % 2 == 1, c[1], f[1]),
+                pulse(pulses / 4 % 2 == 1, c[2], f[2]),
+                pulse(pulses / 8 % 2 == 1, c[3], f[3]),
+                pulse(pulses / 16 % 2 == 1, c[4], f[4]),
+                pulse(pulses / 32 % 2 == 1, c[5], f[5]),
+                pulse(pulses / 64 % 2 == 1, c[6], f[6]),
+                pulse(pulses / 128 % 2 == 1, c[7], f[7]),
+            ],
+            pulses,
+        )
+    }
+
+    // The counted pulses; runs: GO or OPEN PRESCALES is set. Where no counter can move none is looked at.
+    pub fn step(self, runs: bool, pulses: u32) -> Prescaled
+        ensures { λ r. ⌜ r ≡ stepOf runs pulses self ⌝ }
+    {
+        let counted = pulses % Prescalers::INPUTS_LIMIT;
+        if !runs {
+            return Prescaled {
+                next: self,
+                stopped: counted,
+                scaled: 0,
+                passed: 0,
+            };
+        }
+        if pulses % Prescalers::PRESCALED_LIMIT == 0 {
+            return Prescaled {
+                next: self,
+                stopped: 0,
+                scaled: 0,
+                passed: counted,
+            };
+        }
+        self.counted_down(pulses)
+    }
+
+    // [Spoiled.1e] no counter above its factor
+    pub fn has_counters_within(self) -> bool
+        ensures { λ r. ⌜ r ≡ hasCountersWithinOf self ⌝ }
+    {
+        let c = self.counters;
+        let f = self.factors;
+        let in0 = c[0] <= f[0];
+        let in1 = c[1] <= f[1];
+        let in2 = c[2] <= f[2];
+        let in3 = c[3] <= f[3];
+        let in4 = c[4] <= f[4];
+        let in5 = c[5] <= f[5];
+        let in6 = c[6] <= f[6];
+        let in7 = c[7] <= f[7];
+        in0 & (in1 & (in2 & (in3 & (in4 & (in5 & (in6 & (in7 & true)))))))
+    }
+}
