@@ -1,0 +1,95 @@
+-- `branches::Readout::is_well_formed` meets its contract: four blank branches spoil nothing (`blank-is-well-formed`); else each is tested (`every-of-four`).
+-- Written by tools/prove.py; the answers to `returns` were written by hand. Assumes nothing.
+use Rattle.branches.specs.Readout.{isWellFormedOf}
+use mathlib.Core.Path.{sym, _∙_}
+use lib.ListN.{length}
+use Rattle.branches.specs.Readout.{isBlankOf, isSoundOf}
+use Rattle.branches.specs.ReadoutFields.{branchAt}
+use Rattle.branches.proofs.ReadoutChoices.{four-from, every-of-four, blank-is-well-formed}
+use borrow.Author.Needs.{needs}
+use Rattle.branches.proofs.Readout.is_well_formed.Statement.{statement}
+use Rattle.branches.proofs.Readout.is_well_formed.Tie as tie
+
+array-copy-out-b0 : tie.Need-array-copy-out-b0
+array-copy-out-b0 c = search needs
+
+array-copy-out-b1 : tie.Need-array-copy-out-b1
+array-copy-out-b1 c = search needs
+
+array-copy-out-b2 : tie.Need-array-copy-out-b2
+array-copy-out-b2 c = search needs
+
+array-copy-out-b3 : tie.Need-array-copy-out-b3
+array-copy-out-b3 c = search needs
+
+is-blank-requires : tie.Need-is-blank-requires
+is-blank-requires c κs = search needs
+
+is-blank-requires-2 : tie.Need-is-blank-requires-2
+is-blank-requires-2 c κs = search needs
+
+is-blank-requires-3 : tie.Need-is-blank-requires-3
+is-blank-requires-3 c κs = search needs
+
+is-blank-requires-4 : tie.Need-is-blank-requires-4
+is-blank-requires-4 c κs = search needs
+
+returns : tie.Need-returns
+returns c =
+    let start = c .before .before .before .before .before .before .before .before .before .before in
+    let four = four-from _ (start .args .self .branches) (start .good .0 .1 .1 .0 .1 .0 .1) in
+    let a = start .args in
+    let bs = a .self .branches in
+    let tests = every-of-four (length bs) (λ k. isBlankOf (branchAt bs k)) four in
+    let blank = rw (
+      c .before .is-blank4 .ensures,
+      c .before .before .is-blank3 .ensures,
+      c .before .before .before .is-blank2 .ensures,
+      c .before .before .before .before .is-blank .ensures,
+    ) at (c .if1 .taken) in
+    sym (blank-is-well-formed (a .eight) (a .self) four (sym tests ∙ blank))
+
+is-sound-requires : tie.Need-is-sound-requires
+is-sound-requires c κs = search needs
+
+is-sound-requires-2 : tie.Need-is-sound-requires-2
+is-sound-requires-2 c κs = search needs
+
+is-sound-requires-3 : tie.Need-is-sound-requires-3
+is-sound-requires-3 c κs = search needs
+
+is-sound-requires-4 : tie.Need-is-sound-requires-4
+is-sound-requires-4 c κs = search needs
+
+returns-2 : tie.Need-returns-2
+unfolding isWellFormedOf
+returns-2 c =
+    let start = c .before .before .before .before .before .before .before .before .before .before .before .before .before .before in
+    let four = four-from _ (start .args .self .branches) (start .good .0 .1 .1 .0 .1 .0 .1) in
+    let a = start .args in
+    let bs = a .self .branches in
+    rw (
+      c .is-sound4 .ensures,
+      c .before .is-sound3 .ensures,
+      c .before .before .is-sound2 .ensures,
+      c .before .before .before .is-sound .ensures,
+    ) (every-of-four (length bs) (λ k. isSoundOf (a .eight) (branchAt bs k)) four)
+
+pub is-well-formed-spec : {M : Type 1} → statement M
+is-well-formed-spec =
+    tie.close
+    (tie.spec
+    array-copy-out-b0
+    array-copy-out-b1
+    array-copy-out-b2
+    array-copy-out-b3
+    is-blank-requires
+    is-blank-requires-2
+    is-blank-requires-3
+    is-blank-requires-4
+    returns
+    is-sound-requires
+    is-sound-requires-2
+    is-sound-requires-3
+    is-sound-requires-4
+    returns-2)

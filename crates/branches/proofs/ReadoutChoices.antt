@@ -1,0 +1,107 @@
+-- The code's four branches are the definitions' list: what it tests and builds one by one, and what it need not look at.
+--     four-from            an array of four branches has four
+--     every-of-four        four tests in a row are the test of every branch
+--     emptied-of-four      four fresh branches are a readout emptied
+--     gathered-of-four     four steps put together are the step of the readout, for `stepped`
+--     quiet-is-silent      with every branch quiet and nothing to load nothing moves, for `step`
+--     blank-is-well-formed four branches with nothing in any place spoil no record, for `is_well_formed`
+-- Assumes nothing.
+use Prim.Native.Nat.{ℕ, _<_}
+use mathlib.Core.Path.{_≡_, refl, sym, ap, _∙_}
+use mathlib.Core.Bool.{Bool, true, false, not, _&&_, _||_, true≢false}
+use mathlib.Core.List.{List, [], _∷_, map}
+use native.Mathlib.Omega.{arith}
+use lib.Dec.{eqb, ltb}
+use lib.ListN.{length, length-map, replicate}
+use borrow.Author.Tests.{eqb-true, ltb-false, lt-ltb, not-true}
+use Rattle.bits.specs.Notation.{_▷_}
+use Rattle.bits.specs.Bits.{tabulate, every}
+use Rattle.bits.specs.Bytes.{bytes}
+use Rattle.bits.proofs.TestLaws.{and-left, and-right, and-both, every-at, at-every}
+use Rattle.bits.proofs.BitsLaws.{tabulate-same, tabulate-getD}
+use Rattle.branch.specs.Branch as branch
+use Rattle.branch.specs.Slots.{isWordOf}
+use Rattle.branch.proofs.BranchLaws.{quiet-step-silent}
+use Rattle.branch.specs.declared.Phase.{Phase}
+use Rattle.branch.specs.declared.Phase.the-variants.{Rest, Strobe, Drop}
+use Rattle.branch.specs.declared.Slot.{Slot}
+use Rattle.branch.specs.declared.Slot.the-variants.{Nothing, Word}
+use Rattle.branch.specs.declared.Branch.{Branch}
+use Rattle.branch.specs.declared.BranchStep.{BranchStep}
+use Rattle.branches.specs.ReadoutFields.{withBranches, branchAt}
+use Rattle.branches.specs.Readout.{emptiedOf, isQuietOf, stepAt, sideAfterOf, stepOf, gatheredOf, noSide, silentOf}
+use Rattle.branches.specs.Readout.{isSoundOf, isBlankOf, isWellFormedOf}
+use Rattle.branches.specs.declared.Readout.{Readout}
+use Rattle.branches.specs.declared.Side.{Side}
+
+-- ---- four in a row
+
+-- an array of the code has four branches: the prover says it of the list of their parts
+pub four-from : {A : Type 0} (f : Branch → A) (bs : List Branch) → length (map f bs) ≡ 4 → length bs ≡ 4
+four-from f bs h = sym (length-map bs f) ∙ h
+
+pub every-of-four : (n : ℕ) (f : ℕ → Bool) → n ≡ 4 → (f 0 && (f 1 && (f 2 && (f 3 && true)))) ≡ every n f
+unfolding every
+every-of-four n f h = ap (λ (k : ℕ). every k f) (sym h)
+
+pub emptied-of-four : (r : Readout) → length (r .branches) ≡ 4
+    → r ▷ withBranches (branch.freshOf ∷ branch.freshOf ∷ branch.freshOf ∷ branch.freshOf ∷ []) ≡ emptiedOf r
+unfolding emptiedOf
+emptied-of-four r h = ap (λ (k : ℕ). r ▷ withBranches (replicate k branch.freshOf)) (sym h)
+
+pub gathered-of-four : (acks : ℕ) (load : Slot) (r : Readout) → length (r .branches) ≡ 4
+    → gatheredOf (stepAt acks load r 0) (stepAt acks load r 1) (stepAt acks load r 2) (stepAt acks load r 3) (r .roc)
+    ≡ stepOf acks load r
+unfolding gatheredOf stepOf tabulate
+gathered-of-four acks load r h =
+    ap (λ (k : ℕ). record {
+      next = r ▷ withBranches (tabulate k (λ i. stepAt acks load r i .next));
+      sides = tabulate k (λ i. sideAfterOf (stepAt acks load r i));
+    }) (sym h)
+
+-- ---- nothing moves
+
+is-nothing : (load : Slot) → isWordOf load ≡ false → load ≡ Nothing
+is-nothing Nothing h = refl
+is-nothing (Word w) h = absurd (true≢false h)
+
+pub quiet-is-silent : (acks : ℕ) (load : Slot) (r : Readout) → length (r .branches) ≡ 4 → isQuietOf r ≡ true
+    → isWordOf load ≡ false → silentOf r ≡ stepOf acks load r
+unfolding isQuietOf stepOf tabulate
+quiet-is-silent acks load r four quiet none =
+    let n : ℕ = length (r .branches) in
+    let silent : (k : ℕ) → k < n → stepAt acks load r k ≡ branch.silent (branchAt (r .branches) k) =
+    λ k h. rw (is-nothing load none)
+    (quiet-step-silent _ _ (branchAt (r .branches) k) (every-at n (λ i. branch.isQuietOf (branchAt (r .branches) i)) quiet k h)) in
+    let branches = tabulate-same n (λ k. stepAt acks load r k .next) (branchAt (r .branches)) (λ k h. ap (λ (s : BranchStep). s .next) (silent k h)) in
+    let sides = tabulate-same n (λ k. sideAfterOf (stepAt acks load r k)) (λ k. noSide) (λ k h. ap sideAfterOf (silent k h)) in
+    let nothing : tabulate n (λ k. noSide) ≡ noSide ∷ noSide ∷ noSide ∷ noSide ∷ [] = ap (λ (k : ℕ). tabulate k (λ i. noSide)) four in
+    let next = branches ∙ tabulate-getD (r .branches) branch.freshOf in
+    sym (λ j. record { next = r ▷ withBranches (next j); sides = (sides ∙ nothing) j })
+
+-- ---- nothing to refuse
+
+blank-is-sound : (eight : Bool) (phase : Phase) (words len : ℕ) → words ≡ 0 → (branch.isRestOf phase && not (ltb 0 len)) ≡ true
+    → isSoundOf eight (record { words = words; len = len; phase = phase }) ≡ true
+unfolding branch.isWellFormedOf bytes
+blank-is-sound eight Rest words len zero h =
+    let none : len ≡ 0 = omega (arith, ltb-false 0 len (not-true (ltb 0 len) h)) in
+    rw (zero, none) (either eight)
+  where
+    either : (eight : Bool) → ((eight || true) && true) ≡ true
+    either true = refl
+    either false = refl
+blank-is-sound eight Strobe words len zero h = absurd (true≢false (sym h))
+blank-is-sound eight Drop words len zero h = absurd (true≢false (sym h))
+
+pub blank-is-well-formed : (eight : Bool) (r : Readout) → length (r .branches) ≡ 4
+    → every (length (r .branches)) (λ k. isBlankOf (branchAt (r .branches) k)) ≡ true → isWellFormedOf eight r ≡ true
+unfolding isWellFormedOf
+blank-is-well-formed eight r four h =
+    at-every (length (r .branches)) (λ k. isSoundOf eight (branchAt (r .branches) k))
+    (λ k i.
+    let b : Branch = branchAt (r .branches) k in
+    let blank = every-at (length (r .branches)) (λ k. isBlankOf (branchAt (r .branches) k)) h k i in
+    blank-is-sound eight (b .phase) (b .words) (b .len)
+    (eqb-true (b .words) 0 (and-left (eqb (b .words) 0) (branch.isQuietOf b) blank))
+    (and-right (eqb (b .words) 0) (branch.isQuietOf b) blank))

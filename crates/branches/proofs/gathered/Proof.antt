@@ -1,0 +1,38 @@
+-- `branches::gathered` meets its contract: WHY.
+-- Written by tools/prove.py; no answer was changed by hand. Assumes nothing.
+use Rattle.branches.specs.Readout.{gatheredOf}
+use borrow.Author.Needs.{needs}
+use Rattle.branches.proofs.gathered.Statement.{statement}
+use Rattle.branches.proofs.gathered.Tie as tie
+
+side-after-requires : tie.Need-side-after-requires
+side-after-requires c κs = search needs
+
+side-after-requires-2 : tie.Need-side-after-requires-2
+side-after-requires-2 c κs = search needs
+
+side-after-requires-3 : tie.Need-side-after-requires-3
+side-after-requires-3 c κs = search needs
+
+side-after-requires-4 : tie.Need-side-after-requires-4
+side-after-requires-4 c κs = search needs
+
+returns : tie.Need-returns
+unfolding gatheredOf
+returns c =
+    rw (
+      c .side-after4 .ensures,
+      c .before .side-after3 .ensures,
+      c .before .before .side-after2 .ensures,
+      c .before .before .before .side-after .ensures,
+    )
+
+pub gathered-spec : {M : Type 1} → statement M
+gathered-spec =
+    tie.close
+    (tie.spec
+    side-after-requires
+    side-after-requires-2
+    side-after-requires-3
+    side-after-requires-4
+    returns)

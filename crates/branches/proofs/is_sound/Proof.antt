@@ -1,0 +1,17 @@
+-- `branches::is_sound` meets its contract: WHY.
+-- Written by tools/prove.py; no answer was changed by hand. Assumes nothing.
+use borrow.Author.Needs.{needs}
+use Rattle.branches.proofs.is_sound.Statement.{statement}
+use Rattle.branches.proofs.is_sound.Tie as tie
+
+has-room-requires : tie.Need-has-room-requires
+has-room-requires c κs = search needs
+
+is-well-formed-requires : tie.Need-is-well-formed-requires
+is-well-formed-requires c κs = search needs
+
+returns : tie.Need-returns
+returns c = rw (c .is-well-formed .ensures, c .before .has-room .ensures)
+
+pub is-sound-spec : {M : Type 1} → statement M
+is-sound-spec = tie.close (tie.spec has-room-requires is-well-formed-requires returns)
