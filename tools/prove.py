@@ -22,16 +22,12 @@ for f in sorted(glob.glob(kit + '/libs/*/src/*.rt') + glob.glob('crates/*/src/*.
         head = m.group(2)
         fns[m.group(1).replace('_', '-')] = (head.count('ensures'), bool(re.search(r'->\s*bool\b', head)), head)
 
-# ---- unfoldable definitions: name -> the module to name it by
+# ---- unfoldable definitions of this crate: name -> the module to name it by
 opens = {}
-for f in glob.glob('crates/*/specs/*.antt'):
-    k = f.split('/')[1]
+for f in glob.glob(cdir + '/specs/*.antt'):
     mod = os.path.basename(f)[:-5]
-    path = 'Rattle.%s.specs.%s' % (k, mod) if k == crate else 'Rattle.%s.specs.%s' % (k, mod)
     for n in re.findall(r'(?m)^unfoldable pub (\S+) :', open(f).read()):
-        opens.setdefault(n, path)
-        if k == crate:
-            opens[n] = path
+        opens[n] = 'Rattle.%s.specs.%s' % (crate, mod)
 
 text = subprocess.run(['rt', 'dev', crate], capture_output=True, text=True, env=env)
 lines = (text.stdout + text.stderr).split('\n')

@@ -7,7 +7,9 @@ ghost use Rattle.branches.specs.Readout.{isQuietOf, sideAfterOf, gathere
 ghost use Rattle.branches.specs.Readout.{isSoundOf, isBlankOf, isWellFormedOf};
 ghost use Rattle.bits.specs.Notation.{if_then_else_};
 ghost use Rattle.branch.specs.Branch.{queueDepth};
-use branch::{Branch, BranchStep, Slot};
+use branch::Branch;
+use branch::BranchStep;
+use branch::Slot;
 
 pub struct Readout {
     // place k is branch k + 1
@@ -48,7 +50,12 @@ fn gathered(s0: BranchStep, s1: BranchStep, s2: BranchStep, s3: BranchStep, roc:
     };
     ReadoutStep {
         next,
-        sides: [side_after(s0), side_after(s1), side_after(s2), side_after(s3)],
+        sides: [
+            side_after(s0),
+            side_after(s1),
+            side_after(s2),
+            side_after(s3),
+        ],
     }
 }
 
@@ -190,6 +197,7 @@ impl Readout {
         if is_blank(b0) & (is_blank(b1) & (is_blank(b2) & (is_blank(b3) & true))) {
             return true;
         }
-        is_sound(b0, eight) & (is_sound(b1, eight) & (is_sound(b2, eight) & (is_sound(b3, eight) & true)))
+        is_sound(b0, eight)
+            & (is_sound(b1, eight) & (is_sound(b2, eight) & (is_sound(b3, eight) & true)))
     }
 }

@@ -8,7 +8,7 @@
 -- Bit i and place i are input i + 1.
 -- Own rules of 01 used here: none. Decisions: none. Left out: which pulses are counted, in registers.
 -- Assumes nothing.
-use Prim.Native.Nat.{ℕ, _+_, _-_, _*_, _%_, _^_, _≤_}
+use Prim.Native.Nat.{ℕ, suc, _+_, _-_, _*_, _%_, _^_, _≤_}
 use mathlib.Core.Path.{_≡_}
 use mathlib.Core.Bool.{Bool, true, false, not, _&&_, _||_}
 use mathlib.Core.List.{List}
@@ -17,6 +17,7 @@ use lib.ListN.{getD, set, replicate}
 use Rattle.bits.specs.Notation.{if_then_else_, _▷_}
 use Rattle.bits.specs.Bits.{bitAt, maskOf, tabulate, every, clearOf}
 use Rattle.registers.specs.Control.{inputs}
+use Rattle.registers.specs.Registers.{isValidFactor}
 use Rattle.prescaler.specs.PrescalerFields.{withCounters, withFactors, counterAt, factorAt}
 use Rattle.prescaler.specs.declared.Prescalers.{Prescalers}
 use Rattle.prescaler.specs.declared.Prescaled.{Prescaled}
@@ -45,6 +46,10 @@ withFactorOf input factor b =
     ▷ withCounters (set (b .counters) (input - 1) factor)
     ▷ withFactors (set (b .factors) (input - 1) factor)
     else b
+
+-- [Registers.1] the factor of an input, counted from 1
+unfoldable pub factorOf : (input : ℕ) → Prescalers → ℕ
+factorOf input b = if isPrescaledOf input then factorAt b (input - 1) else 0
 
 -- [CSRWrite.2d] RESET loads every counter
 abbrev pub reloadedOf : Prescalers → Prescalers
@@ -134,6 +139,10 @@ gatheredOf all pulses b =
 -- [Spoiled.1e] no counter is above its factor
 unfoldable pub hasCountersWithinOf : Prescalers → Bool
 hasCountersWithinOf b = every prescaledInputs (λ i. leb (counterAt b i) (factorAt b i))
+
+-- [Spoiled.1a] every factor is one that its write takes
+unfoldable pub hasValidFactorsOf : Prescalers → Bool
+hasValidFactorsOf b = every prescaledInputs (λ i. isValidFactor (suc i) (factorAt b i))
 
 -- ---- facts and statements
 

@@ -2,8 +2,9 @@
 // The bank goes in by value and comes back. Every contract is an equality with a definition of specs/.
 ghost use mathlib.Core.Path.{_≡_};
 ghost use mathlib.Core.Bool.{true};
-ghost use Rattle.prescaler.specs.Prescaler.{freshOf, withFactorOf, reloadedOf};
-ghost use Rattle.prescaler.specs.Prescaler.{pulseOf, gatheredOf, stepOf, hasCountersWithinOf};
+ghost use Rattle.prescaler.specs.Prescaler.{freshOf, withFactorOf, factorOf, reloadedOf};
+ghost use Rattle.prescaler.specs.Prescaler.{pulseOf, gatheredOf, stepOf, hasCountersWithinOf, hasValidFactorsOf};
+use registers::register::Register;
 
 // Place i is input i + 1.
 pub struct Prescalers {
@@ -83,6 +84,20 @@ impl Prescalers {
             }
         }
         self
+    }
+
+    // [Registers.1] the factor of an input, counted from 1; 0 for one without a prescaler
+    pub fn factor(self, input: u32) -> u32
+        ensures { λ r. ⌜ r ≡ factorOf input self ⌝ }
+    {
+        let factors = self.factors;
+        if 1 <= input {
+            if input <= Prescalers::PRESCALED_INPUTS {
+                let place = (input - 1) as usize;
+                return factors[place];
+            }
+        }
+        0
     }
 
     // [CSRWrite.2d] every counter loaded
@@ -198,5 +213,21 @@ impl Prescalers {
         let in6 = c[6] <= f[6];
         let in7 = c[7] <= f[7];
         in0 & (in1 & (in2 & (in3 & (in4 & (in5 & (in6 & (in7 & true)))))))
+    }
+
+    // [Spoiled.1a] every factor is one that its write takes
+    pub fn has_valid_factors(self) -> bool
+        ensures { λ r. ⌜ r ≡ hasValidFactorsOf self ⌝ }
+    {
+        let f = self.factors;
+        let fits0 = f[0] < Register::LOW_FACTOR_LIMIT;
+        let fits1 = f[1] < Register::LOW_FACTOR_LIMIT;
+        let fits2 = f[2] < Register::LOW_FACTOR_LIMIT;
+        let fits3 = f[3] < Register::LOW_FACTOR_LIMIT;
+        let fits4 = f[4] < Register::HIGH_FACTOR_LIMIT;
+        let fits5 = f[5] < Register::HIGH_FACTOR_LIMIT;
+        let fits6 = f[6] < Register::HIGH_FACTOR_LIMIT;
+        let fits7 = f[7] < Register::HIGH_FACTOR_LIMIT;
+        fits0 & (fits1 & (fits2 & (fits3 & (fits4 & (fits5 & (fits6 & (fits7 & true)))))))
     }
 }

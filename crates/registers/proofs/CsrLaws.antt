@@ -17,6 +17,7 @@ use Rattle.bits.proofs.WidthLaws.{set-keeps-only, clear-keeps-only, and-keeps-o
 use Rattle.registers.specs.Csr.{settableBits, statusBits, storedBits, resetBits, goBit}
 use Rattle.registers.specs.Csr.{hasBit, isGo, pausesOnNextSync, pausesAndSyncs, isValidStoredCsr}
 use Rattle.registers.specs.Csr.{freshOf, clearedOf, clearedIfOf, markedOf, syncHoldEndedOf, userSyncEndedOf}
+use Rattle.registers.specs.Csr.{syncHoldEndedIfOf, userSyncEndedIfOf}
 use Rattle.registers.specs.Csr.{requestedOf, setThenClearedOf, goRises, changedOf, afterRequestOf, writtenOf}
 use Rattle.registers.specs.CsrBits.{isSettableBit, isStatusBit, bitSetThenCleared}
 use Rattle.registers.specs.CsrBits.{clearsStatus, bitChanged, bitAfter}
@@ -159,6 +160,16 @@ unfolding userSyncEndedOf
 user-sync-ended-keeps-valid c h =
     cleared-if-keeps-valid (pausesAndSyncs c) goBit (clearedOf (bitsFrom 2 2) c)
     (cleared-keeps-valid (bitsFrom 2 2) c h)
+
+pub sync-hold-ended-if-keeps-valid : (ended : Bool) (c : Csr) → Valid c → Valid (syncHoldEndedIfOf ended c)
+unfolding syncHoldEndedIfOf
+sync-hold-ended-if-keeps-valid true c h = sync-hold-ended-keeps-valid c h
+sync-hold-ended-if-keeps-valid false c h = h
+
+pub user-sync-ended-if-keeps-valid : (ended : Bool) (c : Csr) → Valid c → Valid (userSyncEndedIfOf ended c)
+unfolding userSyncEndedIfOf
+user-sync-ended-if-keeps-valid true c h = user-sync-ended-keeps-valid c h
+user-sync-ended-if-keeps-valid false c h = h
 
 set-then-cleared-keeps-valid : (v : ℕ) (c : Csr) → Valid c → Valid (setThenClearedOf v c)
 unfolding setThenClearedOf

@@ -2,4 +2,5 @@
 pub mod MainExamples
 pub mod MainMoves
 pub mod MainLaws
+pub mod MainWellFormed
 pub mod SequencerChoices

@@ -3,9 +3,8 @@
 --     step-loads-in-order        a load comes where a queue may take it; a state that waits for the branches is left by
 --                                the test on them
 --     to-idle-zeroes             a move to Idle leaves nothing of the event
---     idle-stays                 at Idle the step changes nothing
+--     idle-stays, idle-does-not-age, aged-keeps-state   at Idle nothing moves; ageing leaves the state
 --     fail-beats-pass2, fail-beats-pass3, pass3-keeps-accept2, word-is-six-bit   single rules
---     step-, aged-, accepted-keeps-well-formed   what of main spoils a record does not come about
 -- Assumes nothing.
 use Prim.Native.Nat.{ℕ, _+_, _*_, _/_, _%_, _^_, _<_, _≤_}
 use mathlib.Core.Path.{_≡_, refl, sym, ap, _∙_}
@@ -174,6 +173,20 @@ module _ (t : Tests) (m : MainSequencer) where
         ends = implied (s .ended) (t .empty) (rule 4 (lit< tt));
       }
 
+-- [Main.1] at Idle the age does not rise
+pub idle-does-not-age : (m : MainSequencer) → isIdle (m .state) ≡ true → agedOf m ≡ m
+unfolding agedOf
+idle-does-not-age m h =
+    ap (λ (idle : Bool). if not idle && ltb (m .age) ageLimit then m ▷ withAge (m .age + 1) else m) h
+
+pub aged-keeps-state : (m : MainSequencer) → agedOf m .state ≡ m .state
+unfolding agedOf
+aged-keeps-state m = go (not (isIdle (m .state)) && ltb (m .age) ageLimit)
+  where
+    go : (t : Bool) → (if t then m ▷ withAge (m .age + 1) else m) .state ≡ m .state
+    go true = refl
+    go false = refl
+
 -- ---- single rules
 
 -- [Main.3] whatever the pass line says
@@ -207,80 +220,3 @@ word-is-six-bit sync m = go sync (m .late)
     go true false = omega arith
     go false true = omega arith
     go false false = omega arith
-
--- ---- what of main spoils a record does not come about
-
-pub idle-is-well-formed : WellFormedMain idleOf
-idle-is-well-formed = record { code = lit≤ tt; class = λ w. absurd (false≢true w); age = lit≤ tt }
-
-not-wait2-after-load : (sync : Bool) → isWait2 (afterLoad sync) ≡ false
-not-wait2-after-load true = refl
-not-wait2-after-load false = refl
-
-module _ (t : Tests) (m : MainSequencer) (code : m .code ≤ codeLimit) (age : m .age ≤ ageLimit) where
-  -- what a move leaves at g, with the code and the age that were
-  at : (n : MainSequencer) → n .code ≡ m .code → n .age ≡ m .age → isWait2 (n .state) ≡ false → WellFormedMain n
-  at n c a w =
-      record { code = rw c code; class = λ h. absurd (true≢false (sym h ∙ w)); age = rw a age }
-
-  keeps-well-formed : {g : State} {v : Move} → MovesIn t g v → WellFormedMain (m ▷ withState g)
-      → WellFormedMain (stepBy v t (m ▷ withState g) .next)
-  keeps-well-formed (staysIn g) h = h
-  keeps-well-formed delayWaits h = at _ refl refl refl
-  keeps-well-formed delayEnds h = at _ refl refl refl
-  keeps-well-formed wait2FailsLate h = at _ refl refl refl
-  keeps-well-formed wait2Fails h = at _ refl refl refl
-  keeps-well-formed wait2ToDelay h = at _ refl refl refl
-  keeps-well-formed wait2ToWait3 h = at _ refl refl refl
-  keeps-well-formed wait3FailsLate h = at _ refl refl refl
-  keeps-well-formed wait3Fails h = at _ refl refl refl
-  keeps-well-formed wait3Passes h = at _ refl refl refl
-  keeps-well-formed frontLoads h = at _ refl refl (not-wait2-after-load (t .sync))
-  keeps-well-formed (spaceLeaves r) h = idle-is-well-formed
-  keeps-well-formed (syncHoldEnds r) h = idle-is-well-formed
-  keeps-well-formed clearCounts h = at _ refl refl refl
-  keeps-well-formed clearEnds h = idle-is-well-formed
-
-pub step-keeps-well-formed : (t : Tests) (m : MainSequencer) → WellFormedMain m → WellFormedMain (stepOf t m .next)
-unfolding stepOf
-step-keeps-well-formed t m h = keeps-well-formed t m (h .code) (h .age) (move-is-one-of (m .state) t m) h
-
-pub aged-keeps-well-formed : (m : MainSequencer) → WellFormedMain m → WellFormedMain (agedOf m)
-unfolding agedOf
-aged-keeps-well-formed m h = go (not (isIdle (m .state))) (ltb (m .age) ageLimit) refl
-  where
-    go : (cycle below : Bool) → ltb (m .age) ageLimit ≡ below
-        → WellFormedMain (if cycle && below then m ▷ withAge (m .age + 1) else m)
-    go true true e =
-        record { code = h .code; class = h .class; age = omega (arith, ltb-true (m .age) ageLimit e) }
-    go true false e = h
-    go false below e = h
-
--- an accepted word has a class, so Wait 2 is entered in class 2 or 3
-class-of-ok : (b1 b2 b3 : Bool) → (b1 || (b2 || b3)) ≡ true
-    → eqb (if b1 then 1 else if b2 then 2 else if b3 then 3 else 0) 1 ≡ false
-    → (eqb (if b1 then 1 else if b2 then 2 else if b3 then 3 else 0) 2
-    || eqb (if b1 then 1 else if b2 then 2 else if b3 then 3 else 0) 3) ≡ true
-class-of-ok true b2 b3 h k = absurd (true≢false k)
-class-of-ok false true b3 h k = refl
-class-of-ok false false true h k = refl
-class-of-ok false false false h k = absurd (false≢true h)
-
-pub accepted-keeps-well-formed : (w : ℕ) (m : MainSequencer) → isOkWord w ≡ true → WellFormedMain (acceptedOf w m)
-unfolding acceptedOf classInOf
-accepted-keeps-well-formed w m ok = go (eqb (classInOf w) 1) refl
-  where
-    low : codeIn w ≤ codeLimit
-    low = omega arith
-
-    some : (bitAt w 1 || (bitAt w 2 || bitAt w 3)) ≡ true
-    some = and-right (bitAt w 0) (bitAt w 1 || (bitAt w 2 || bitAt w 3)) ok
-
-    entered : MainSequencer → Bool → MainSequencer
-    entered n one = if one then n ▷ raise okLine ▷ withState Delay else n ▷ raise okLine ▷ raise start2Line ▷ withState Wait2
-
-    go : (one : Bool) → eqb (classInOf w) 1 ≡ one
-        → WellFormedMain (entered (m ▷ withAge 0 ▷ withClass (classInOf w) ▷ withCode (codeIn w) ▷ withAccept (acceptIn w)) one)
-    go true e = record { code = low; class = λ h. absurd (false≢true h); age = lit≤ tt }
-    go false e =
-        record { code = low; class = λ h. class-of-ok (bitAt w 1) (bitAt w 2) (bitAt w 3) some e; age = lit≤ tt }

@@ -11,9 +11,10 @@
 use Prim.Native.Nat.{ℕ, _+_, _-_, _*_, _%_, _^_, _≤_}
 use mathlib.Core.Path.{_≡_}
 use mathlib.Core.Bool.{Bool, true, false, not, _&&_, _||_}
-use lib.Dec.{eqb, ltb}
+use mathlib.Core.List.{[], _∷_}
+use lib.Dec.{eqb, ltb, leb}
 use Rattle.bits.specs.Notation.{if_then_else_, _▷_}
-use Rattle.bits.specs.Bits.{bitAt, oneIfOf, setOf}
+use Rattle.bits.specs.Bits.{bitAt, oneIfOf, setOf, allTrue}
 use Rattle.sequencer.specs.MemoryWord.{classInOf, codeIn, acceptIn}
 use Rattle.sequencer.specs.MainFields.{withAge, withState, withClear, withClass, withCode, withAccept}
 use Rattle.sequencer.specs.MainFields.{withRaised, withLate, quiet, withOutcome, withLateMark, withSync}
@@ -193,12 +194,26 @@ stepOf t m = stepBy (moveOf t m) t m
 abbrev pub isClearing : MainSequencer → Bool
 isClearing m = ltb 0 (m .clear)
 
--- ---- what of main spoils a record, as facts
+-- ---- what of main spoils a record
 
+-- [Spoiled.1c]
+abbrev pub isClassOfWait2 : ℕ → Bool
+isClassOfWait2 class = eqb class 2 || eqb class 3
+
+-- [Spoiled.1b] [Spoiled.1c] [Spoiled.1i] in this order
+unfoldable pub isWellFormedOf : MainSequencer → Bool
+isWellFormedOf m =
+    allTrue (
+    leb (m .code) codeLimit
+    ∷ (not (isWait2 (m .state)) || isClassOfWait2 (m .class))
+    ∷ leb (m .age) ageLimit
+    ∷ [])
+
+-- the same as facts
 pub record WellFormedMain (m : MainSequencer) : Type 0 where
   -- [Spoiled.1b]
   pub code : m .code ≤ codeLimit
   -- [Spoiled.1c]
-  pub class : isWait2 (m .state) ≡ true → (eqb (m .class) 2 || eqb (m .class) 3) ≡ true
+  pub class : isWait2 (m .state) ≡ true → isClassOfWait2 (m .class) ≡ true
   -- [Spoiled.1i]
   pub age : m .age ≤ ageLimit

@@ -6,8 +6,9 @@ ghost use lib.Dec.{eqb, ltb};
 ghost use Rattle.bits.specs.Notation.{if_then_else_};
 ghost use Rattle.bits.specs.Bits.{setOf};
 ghost use Rattle.sequencer.specs.MainFields.{quiet, withState, withRaised};
-ghost use Rattle.sequencer.specs.States.{isIdle};
+ghost use Rattle.sequencer.specs.States.{isIdle, isLoaded, isWait2, isEvent};
 ghost use Rattle.sequencer.specs.MainSequencer.{idleOf, agedOf, acceptedOf, isClearing, wordOf};
+ghost use Rattle.sequencer.specs.MainSequencer.{isClassOfWait2, isWellFormedOf};
 ghost use Rattle.sequencer.specs.MainSequencer.{moveIn, lateStep, clearedStep, failStep, stepBy, stepOf};
 ghost use Rattle.sequencer.specs.declared.main_sequencer.State.the-variants.{Delay, Wait2, Wait3};
 ghost use Rattle.sequencer.specs.declared.main_sequencer.State.the-variants.{Front, Space, SyncHold, Clear};
@@ -32,6 +33,19 @@ pub enum Outcome {
     Cleared,
     Event(u8),
     Tag(u8),
+}
+
+impl Outcome {
+    pub fn is_event(self) -> bool
+        ensures { λ r. ⌜ r ≡ isEvent self ⌝ }
+    {
+        match self {
+            Outcome::Nothing => false,
+            Outcome::Cleared => false,
+            Outcome::Event(w) => true,
+            Outcome::Tag(w) => false
+        }
+    }
 }
 
 pub struct MainSequencer {
@@ -103,6 +117,43 @@ impl State {
             State::Clear => false,
         }
     }
+
+    // [Spoiled.1f] the event is loaded, and main waits for the branches
+    pub fn is_loaded(self) -> bool
+        ensures { λ r. ⌜ r ≡ isLoaded self ⌝ }
+    {
+        match self {
+            State::Idle => false,
+            State::Delay => false,
+            State::Wait2 => false,
+            State::Wait3 => false,
+            State::Front => false,
+            State::Space => true,
+            State::SyncHold => true,
+            State::Clear => false,
+        }
+    }
+
+    fn is_wait2(self) -> bool
+        ensures { λ r. ⌜ r ≡ isWait2 self ⌝ }
+    {
+        match self {
+            State::Idle => false,
+            State::Delay => false,
+            State::Wait2 => true,
+            State::Wait3 => false,
+            State::Front => false,
+            State::Space => false,
+            State::SyncHold => false,
+            State::Clear => false,
+        }
+    }
+}
+
+fn is_class_of_wait2(class: u8) -> bool
+    ensures { λ r. ⌜ r ≡ isClassOfWait2 class ⌝ }
+{
+    (class == 2) | (class == 3)
 }
 
 fn raised_if(raised: u8, t: bool, line: u8) -> u8
@@ -120,7 +171,8 @@ fn state_after_load(sync: bool) -> State
     if sync { State::SyncHold } else { State::Space }
 }
 
-fn quiet_step(next: MainSequencer) -> MainStep
+// Nothing but the sequencer itself.
+pub fn quiet_step(next: MainSequencer) -> MainStep
     ensures { λ r. ⌜ r ≡ quiet next ⌝ }
 {
     MainStep {
@@ -181,6 +233,17 @@ impl MainSequencer {
             next.age = next.age + 1;
         }
         next
+    }
+
+    // [Spoiled.1b] [Spoiled.1c] [Spoiled.1i] nothing here spoils the record
+    pub fn is_well_formed(self) -> bool
+        ensures { λ r. ⌜ r ≡ isWellFormedOf self ⌝ }
+    {
+        let state = self.state;
+        let code = self.code <= MainSequencer::CODE_LIMIT;
+        let class = !state.is_wait2() | is_class_of_wait2(self.class);
+        let age = self.age <= MainSequencer::AGE_LIMIT;
+        code & (class & (age & true))
     }
 
     // [Main.16]

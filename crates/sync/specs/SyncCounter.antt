@@ -49,3 +49,9 @@ afterLoadOf enabled c =
 -- [Main.14] [Usersync.2] [CSRWrite.2d] the count starts anew
 abbrev pub zeroedOf : SyncCounter → SyncCounter
 zeroedOf c = c ▷ withCount 0
+
+-- ---- what of it spoils a record
+
+-- [Spoiled.1h]
+abbrev pub isWithin : SyncCounter → Bool
+isWithin c = leb (c .count) countLimit

@@ -1,6 +1,6 @@
 // The scheduled sync (document 01, "The tick", Main). The definitions are in specs/SyncCounter.antt.
 ghost use mathlib.Core.Path.{_≡_};
-ghost use Rattle.sync.specs.SyncCounter.{freshOf, isDue, afterLoadOf, zeroedOf};
+ghost use Rattle.sync.specs.SyncCounter.{freshOf, isDue, afterLoadOf, zeroedOf, isWithin};
 
 pub struct SyncCounter {
     // register 11
@@ -10,6 +10,9 @@ pub struct SyncCounter {
 }
 
 impl SyncCounter {
+    // [Spoiled.1h] the largest count of a record that is not spoiled
+    pub const COUNT_LIMIT: u16 = 65534;
+
     // [Registers.4] interval and count 0
     pub fn fresh() -> SyncCounter
         ensures { λ r. ⌜ r ≡ freshOf ⌝ }
@@ -46,6 +49,13 @@ impl SyncCounter {
             };
         }
         self
+    }
+
+    // [Spoiled.1h]
+    pub fn is_within(self) -> bool
+        ensures { λ r. ⌜ r ≡ isWithin self ⌝ }
+    {
+        self.count <= SyncCounter::COUNT_LIMIT
     }
 
     // [Main.14] [Usersync.2] the count starts anew

@@ -1,15 +1,16 @@
 -- The timers: two units of time, each with its own ticks, and the tests that Main makes with them.
 --     document 01      "Registers", the widths; "The tick", Main
 --     count40TicksOf   the ticks of a count of 40 ns; count20TicksOf: of a count of 20 ns
+--     writtenOf, storedOf   a timer written and read by its number
 --     isReached        an age has reached a count of 40 ns
 --     isLateDue        T1 is in use and reached: a fail is late
 --     frontTestOf      the Front test, which Clear makes too
 --     clearCountOf     the count that Clear enters with
 -- Own rules of 01 used here: none. Decisions: none. Left out: nothing.
 -- Assumes nothing.
-use Prim.Native.Nat.{ℕ, _*_}
+use Prim.Native.Nat.{ℕ, _*_, _%_, _^_}
 use mathlib.Core.Bool.{Bool, not, _&&_}
-use lib.Dec.{ltb, leb}
+use lib.Dec.{eqb, ltb, leb}
 use Rattle.bits.specs.Notation.{if_then_else_}
 use Rattle.timers.specs.declared.Count40.{Count40}
 use Rattle.timers.specs.declared.Count20.{Count20}
@@ -25,6 +26,27 @@ count20TicksOf n = n .0
 -- [Registers.4] every timer 0
 abbrev pub freshOf : Timers
 freshOf = record { t1 = record { 0 = 0 }; t2 = record { 0 = 0 }; t3 = record { 0 = 0 }; t4 = record { 0 = 0 }; t5 = record { 0 = 0 } }
+
+-- ---- changes of one timer, by its number: T1–T5
+
+-- [Widths.2] 16 bits, and 8 for T5
+unfoldable pub writtenOf : (n v : ℕ) → Timers → Timers
+writtenOf n v t =
+    if eqb n 1 then record { t1 = record { 0 = v % 2 ^ 16 }; t2 = t .t2; t3 = t .t3; t4 = t .t4; t5 = t .t5 }
+    else if eqb n 2 then record { t1 = t .t1; t2 = record { 0 = v % 2 ^ 16 }; t3 = t .t3; t4 = t .t4; t5 = t .t5 }
+    else if eqb n 3 then record { t1 = t .t1; t2 = t .t2; t3 = record { 0 = v % 2 ^ 16 }; t4 = t .t4; t5 = t .t5 }
+    else if eqb n 4 then record { t1 = t .t1; t2 = t .t2; t3 = t .t3; t4 = record { 0 = v % 2 ^ 16 }; t5 = t .t5 }
+    else record { t1 = t .t1; t2 = t .t2; t3 = t .t3; t4 = t .t4; t5 = record { 0 = v % 2 ^ 8 } }
+
+unfoldable pub storedOf : (n : ℕ) → Timers → ℕ
+storedOf n t =
+    if eqb n 1 then t .t1 .0
+    else if eqb n 2 then t .t2 .0
+    else if eqb n 3 then t .t3 .0
+    else if eqb n 4 then t .t4 .0
+    else t .t5 .0
+
+-- ---- the tests that are made with them
 
 -- [Main.6] [Main.7] [Main.8] an age in ticks against a count of 40 ns
 abbrev pub isReached : (age : ℕ) → Count40 → Bool

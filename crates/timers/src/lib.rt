@@ -2,7 +2,7 @@
 // The definitions are in specs/Timers.antt.
 ghost use mathlib.Core.Path.{_≡_};
 ghost use Rattle.timers.specs.Timers.{count40TicksOf, count20TicksOf, freshOf, isReached};
-ghost use Rattle.timers.specs.Timers.{isLateDue, frontTestOf, clearCountOf};
+ghost use Rattle.timers.specs.Timers.{writtenOf, storedOf, isLateDue, frontTestOf, clearCountOf};
 
 // T1–T4: counts of 40 ns.
 pub struct Count40(pub u16);
@@ -55,6 +55,51 @@ impl Timers {
             t4: Count40(0),
             t5: Count20(0),
         }
+    }
+
+    // [Widths.2] a value is cut to its timer's width
+    pub fn written(self, n: u32, value: u32) -> Timers
+        ensures { λ r. ⌜ r ≡ writtenOf n value self ⌝ }
+    {
+        let count40 = Count40((value % 65536) as u16);
+        let count20 = Count20((value % 256) as u8);
+        let mut next = self;
+        if n == 1 {
+            next.t1 = count40;
+            return next;
+        }
+        if n == 2 {
+            next.t2 = count40;
+            return next;
+        }
+        if n == 3 {
+            next.t3 = count40;
+            return next;
+        }
+        if n == 4 {
+            next.t4 = count40;
+            return next;
+        }
+        next.t5 = count20;
+        next
+    }
+
+    pub fn stored(self, n: u32) -> u32
+        ensures { λ r. ⌜ r ≡ storedOf n self ⌝ }
+    {
+        if n == 1 {
+            return self.t1.0 as u32;
+        }
+        if n == 2 {
+            return self.t2.0 as u32;
+        }
+        if n == 3 {
+            return self.t3.0 as u32;
+        }
+        if n == 4 {
+            return self.t4.0 as u32;
+        }
+        self.t5.0 as u32
     }
 
     // [Main.6] used: CSR bit 6

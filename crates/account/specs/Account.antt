@@ -1,0 +1,158 @@
+-- The account of demand 3: what a bystander keeps, from the log of asks and replies alone.
+--     document 01    "The account of demand 3"
+--     startOf        the account at the start, at a control value and factors
+--     afterTick      after a tick that was carried out
+--     afterWrite     after a register write that was carried out
+--     accountOf      after a whole log; by its type it sees neither record nor memory
+-- It shares with the machine only words: which register a number names, which pulses count, what a mask's bit is.
+-- Own rules of 01 used here: none. Decisions: none. Left out: nothing.
+-- Assumes nothing.
+use Prim.Native.Nat.{ℕ, suc, _+_, _-_}
+use mathlib.Core.Bool.{Bool, true, false, not, _&&_, _||_}
+use mathlib.Core.List.{List, [], _∷_, _++_}
+use lib.ListN.{getD}
+use Rattle.bits.specs.Notation.{if_then_else_, _▷_}
+use Rattle.bits.specs.Bits.{bitAt, oneIfOf}
+use Rattle.registers.specs.Csr.{requestedOf}
+use Rattle.registers.specs.Control.{counts}
+use Rattle.registers.specs.Registers.{numberedOf}
+use Rattle.registers.specs.declared.csr.Request.{Request}
+use Rattle.registers.specs.declared.csr.Request.the-variants.{Nothing, Reset, Initialize}
+use Rattle.registers.specs.declared.register.Register.{Register}
+use Rattle.registers.specs.declared.register.Register.the-variants.{Csr, Control, Factor, RocEnable}
+use Rattle.registers.specs.declared.register.Register.the-variants.{Interval, Timer, Scaler, Assign, Absent}
+use Rattle.branch.specs.Slots.{wordsIn}
+use Rattle.branches.specs.Readout.{noSide}
+use Rattle.sequencer.specs.States.{outcomeWords, isCleared, isEvent, isTag}
+use Rattle.sequencer.specs.declared.main_sequencer.Outcome.{Outcome}
+use Rattle.scalers.specs.Scalers.{isSome}
+use Rattle.core.specs.Lines.{hasStrobe}
+use Rattle.core.specs.declared.lines.Inputs.{Inputs}
+use Rattle.supervisor.specs.declared.Answer.{Answer}
+use Rattle.calls.specs.Answers.{Reply, declined, done, value, ticked}
+use Rattle.account.specs.Runs.{Ask, writeRegister, readRegister, writeMemory, readMemory, tick, Entry}
+use Rattle.account.specs.AccountFields.{Sums, Events, Account, withControl, withFactor, withN, withP, put}
+
+-- ---- the start
+
+abbrev pub noSums : Sums
+noSums = record { counted = λ i. 0; stopped = λ i. 0; scaled = λ i. 0; lost = λ i. 0; rejected = λ i. 0; accepted = λ i. 0 }
+
+abbrev pub noEvents : Events
+noEvents = record { accepted = 0; cleared = 0; loaded = 0; tags = 0; undecided = false }
+
+-- [Account.4] [Account.9] all counts 0, all lists empty, nothing undecided
+abbrev pub startOf : (control : ℕ) (factor : ℕ → ℕ) → Account
+startOf control factor =
+    record { control = control; factor = factor; n = λ i. 0; p = λ i. 0; sums = noSums; events = noEvents; words = []; finished = λ k. [] }
+
+-- [Account.4] control 0, every factor 0
+abbrev pub start : Account
+start = startOf 0 (λ i. 0)
+
+-- ---- a tick carried out
+
+-- [Account.10] the pulse rule, with the control that the account keeps
+abbrev pub countsIn : Account → Inputs → (i : ℕ) → Bool
+countsIn a x i = counts (record { word = a .control }) (hasStrobe (x .lines)) (x .triggers) i
+
+-- one more where the test holds
+abbrev pub add : (ℕ → ℕ) → (ℕ → Bool) → ℕ → ℕ
+add f test i = f i + oneIfOf (test i)
+
+-- [Account.11]
+abbrev pub sumsAfter : (counted : ℕ → Bool) → Answer → Sums → Sums
+sumsAfter counted y s =
+    record {
+      counted = add (s .counted) counted;
+      stopped = add (s .stopped) (bitAt (y .masks .stopped));
+      scaled = add (s .scaled) (bitAt (y .masks .scaled));
+      lost = add (s .lost) (bitAt (y .masks .lost));
+      rejected = add (s .rejected) (bitAt (y .masks .rejected));
+      accepted = add (s .accepted) (bitAt (y .masks .accepted));
+    }
+
+-- [Account.14] such an outcome leaves nothing undecided
+abbrev pub decides : Outcome → Bool
+decides o = isCleared o || (isEvent o || isTag o)
+
+-- [Account.13] [Account.14]
+abbrev pub undecidedAfter : (accepted : Bool) → Outcome → Bool → Bool
+undecidedAfter accepted o before = not (decides o) && (accepted || before)
+
+abbrev pub eventsAfter : Answer → Events → Events
+eventsAfter y e =
+    record {
+      accepted = e .accepted + oneIfOf (isSome (y .masks .accepted));
+      cleared = e .cleared + oneIfOf (isCleared (y .outcome));
+      loaded = e .loaded + oneIfOf (isEvent (y .outcome));
+      tags = e .tags + oneIfOf (isTag (y .outcome));
+      undecided = undecidedAfter (isSome (y .masks .accepted)) (y .outcome) (e .undecided);
+    }
+
+-- [Account.12] counted and not in stopped; and not in scaled either
+abbrev pub isUnstopped : (counted : ℕ → Bool) → Answer → (i : ℕ) → Bool
+isUnstopped counted y i = counted i && not (bitAt (y .masks .stopped) i)
+
+abbrev pub isThrough : (counted : ℕ → Bool) → Answer → (i : ℕ) → Bool
+isThrough counted y i = counted i && (not (bitAt (y .masks .stopped) i) && not (bitAt (y .masks .scaled) i))
+
+-- [Account.15] a loaded word joins the words, each finished word its branch's
+unfoldable pub afterTick : Inputs → Answer → Account → Account
+afterTick x y a =
+    record {
+      control = a .control;
+      factor = a .factor;
+      n = add (a .n) (isUnstopped (countsIn a x) y);
+      p = add (a .p) (isThrough (countsIn a x) y);
+      sums = sumsAfter (countsIn a x) y (a .sums);
+      events = eventsAfter y (a .events);
+      words = a .words ++ outcomeWords (y .outcome);
+      finished = λ k. a .finished k ++ wordsIn (getD (y .sides) k noSide .finished);
+    }
+
+-- ---- a register write carried out
+
+-- [Account.8] [Account.9]
+abbrev pub afterRequest : Request → Account → Account
+afterRequest Initialize a = start
+afterRequest Reset a = startOf (a .control) (a .factor)
+afterRequest Nothing a = a
+
+-- [Account.7] input is counted from 1; its own n and p start anew
+abbrev pub afterFactor : (input v : ℕ) → Account → Account
+afterFactor input v a =
+    a ▷ withFactor (put (a .factor) (input - 1) v) ▷ withN (put (a .n) (input - 1) 0) ▷ withP (put (a .p) (input - 1) 0)
+
+-- [Account.5] [Account.6] every other register leaves it alone
+abbrev pub afterWrite : Register → (v : ℕ) → Account → Account
+afterWrite Csr v a = afterRequest (requestedOf v) a
+afterWrite Control v a = a ▷ withControl v
+afterWrite (Factor input) v a = afterFactor input v a
+afterWrite RocEnable v a = a
+afterWrite Interval v a = a
+afterWrite (Timer n) v a = a
+afterWrite (Scaler n) v a = a
+afterWrite Assign v a = a
+afterWrite Absent v a = a
+
+-- ---- a whole log
+
+-- [Account.5] declined calls, reads and memory writes leave it alone
+abbrev pub afterEntry : Ask → Reply → Account → Account
+afterEntry (writeRegister number v) done a = afterWrite (numberedOf number) v a
+afterEntry (writeRegister number v) (declined k) a = a
+afterEntry (writeRegister number v) (value w) a = a
+afterEntry (writeRegister number v) (ticked y) a = a
+afterEntry (readRegister number) reply a = a
+afterEntry (writeMemory place word) reply a = a
+afterEntry (readMemory place) reply a = a
+afterEntry (tick x) (ticked y) a = afterTick x y a
+afterEntry (tick x) (declined k) a = a
+afterEntry (tick x) done a = a
+afterEntry (tick x) (value w) a = a
+
+-- [Account.3]
+abbrev pub accountOf : List Entry → Account → Account
+accountOf [] a = a
+accountOf (e ∷ es) a = accountOf es (afterEntry (e .ask) (e .reply) a)

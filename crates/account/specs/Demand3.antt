@@ -1,0 +1,52 @@
+-- Demand 3, as one statement about the whole list.
+--
+-- Take any list of calls, refused ones among them, each lent any memory, made on a fresh supervisor of k branches. Let a
+-- bystander keep the account of the asks and replies. Then any branch, and so any two, share it with the bystander: the
+-- words that a branch finished, followed by those it holds, are the words loaded, in their order, and it holds at most eight.
+-- Every counted pulse of every input is in exactly one mask. Accepted events are cleared, loaded or the one undecided, and
+-- main stands at Delay, Wait 2, Wait 3 or Front exactly when one is. Of n pulses n div (F + 1) pass.
+--     document 01    "The account of demand 3"
+--     Balanced       the statement, of a record and an account
+--     Demand3        it holds after every list of calls
+-- Own rules of 01 used here: none. Decisions: none. Left out: nothing.
+-- Assumes nothing.
+use Prim.Native.Nat.{ℕ, _+_, _/_, _<_, _≤_}
+use mathlib.Core.Path.{_≡_}
+use mathlib.Core.List.{List, _++_}
+use lib.ListN.{length}
+use Rattle.bits.specs.Bits.{oneIfOf}
+use Rattle.registers.specs.Control.{inputs}
+use Rattle.branch.specs.Branch.{queueDepth, held}
+use Rattle.branches.specs.ReadoutFields.{branchAt}
+use Rattle.sequencer.specs.States.{isUndecided}
+use Rattle.supervisor.specs.Supervisor.{freshOf}
+use Rattle.supervisor.specs.declared.Supervisor.{Supervisor}
+use Rattle.account.specs.Runs.{Call, recordAfter, logOf}
+use Rattle.account.specs.AccountFields.{Account}
+use Rattle.account.specs.Account.{start, accountOf}
+
+-- the words held by branch k + 1
+abbrev pub heldAt : Supervisor → (k : ℕ) → List ℕ
+heldAt s k = held (branchAt (s .readout .branches) k)
+
+pub record Balanced (branches : ℕ) (s : Supervisor) (a : Account) : Type 0 where
+  -- [Account.15] [Account.16] finished, then held, are the words loaded, in order
+  pub order : (k : ℕ) → k < branches → a .finished k ++ heldAt s k ≡ a .words
+  -- [Account.16] at most eight are held
+  pub eight : (k : ℕ) → k < branches → length (heldAt s k) ≤ queueDepth
+  -- [Account.11] each counted pulse is in exactly one mask
+  pub pulses : (i : ℕ) → i < inputs
+      → a .sums .counted i
+      ≡ a .sums .stopped i + a .sums .scaled i + a .sums .lost i + a .sums .rejected i + a .sums .accepted i
+  -- [Account.13] [Account.14] accepted events are cleared, loaded or undecided
+  pub events : a .events .accepted ≡ a .events .cleared + a .events .loaded + oneIfOf (a .events .undecided)
+  -- [Account.18] main holds the undecided one
+  pub decides : a .events .undecided ≡ isUndecided (s .core .main .state)
+  -- [Account.17] of n pulses not stopped since the load n div (F + 1) passed
+  pub prescales : (i : ℕ) → i < inputs → a .p i ≡ a .n i / (a .factor i + 1)
+
+-- [Account.1]
+unfoldable pub Demand3 : (branches : ℕ) → Type 0
+Demand3 branches =
+    (calls : List Call)
+    → Balanced branches (recordAfter calls (freshOf branches)) (accountOf (logOf calls (freshOf branches)) start)

@@ -1,0 +1,67 @@
+-- A run: a list of calls, each on the record that the call before left, each lent a memory of any words and length.
+--     document 01    "The account of demand 3"
+--     Ask            what is asked of the supervisor: all that a bystander sees of a call
+--     Call           an ask with the memory that is lent to it
+--     callOf         the reply to a call, and the record after it
+--     recordAfter    the record after a list of calls
+--     logOf          what a bystander logs of it: asks and replies, no record and no memory
+-- Own rules of 01 used here: none. Decisions: none. Left out: nothing.
+-- Assumes nothing.
+use Prim.Native.Nat.{ℕ}
+use mathlib.Core.List.{List, [], _∷_}
+use Rattle.core.specs.declared.lines.Inputs.{Inputs}
+use Rattle.supervisor.specs.declared.Supervisor.{Supervisor}
+use Rattle.calls.specs.Answers.{Reply, verdictReply, readingReply, tickReply}
+use Rattle.calls.specs.Calls.{writeRegisterOf, readRegisterOf, writeMemoryOf, readMemoryOf, tickOf}
+
+-- ---- calls
+
+pub data Ask : Type 0 where
+  writeRegister : (number value : ℕ) → Ask
+  readRegister : (number : ℕ) → Ask
+  writeMemory : (place word : ℕ) → Ask
+  readMemory : (place : ℕ) → Ask
+  tick : Inputs → Ask
+
+-- [Account.2] the memory is any list of numbers; register calls do not look at it
+pub record Call : Type 0 where
+  pub ask : Ask
+  pub memory : List ℕ
+
+pub record Result : Type 0 where
+  pub reply : Reply
+  pub next : Supervisor
+
+-- ---- one call
+
+abbrev pub askOf : Ask → List ℕ → Supervisor → Result
+askOf (writeRegister number value) memory s =
+    record { reply = verdictReply (writeRegisterOf number value s .answer); next = writeRegisterOf number value s .next }
+askOf (readRegister number) memory s =
+    record { reply = readingReply (readRegisterOf number s .answer); next = readRegisterOf number s .next }
+askOf (writeMemory place word) memory s =
+    record { reply = verdictReply (writeMemoryOf memory place s .answer); next = writeMemoryOf memory place s .next }
+askOf (readMemory place) memory s =
+    record { reply = readingReply (readMemoryOf memory place s .answer); next = readMemoryOf memory place s .next }
+askOf (tick x) memory s =
+    record { reply = tickReply (tickOf memory x s .verdict) (tickOf memory x s .answer); next = tickOf memory x s .next }
+
+abbrev pub callOf : Call → Supervisor → Result
+callOf c s = askOf (c .ask) (c .memory) s
+
+-- ---- the whole list
+
+-- [Account.2] each call gets the record that the one before left
+abbrev pub recordAfter : List Call → Supervisor → Supervisor
+recordAfter [] s = s
+recordAfter (c ∷ cs) s = recordAfter cs (callOf c s .next)
+
+-- what a bystander logs of one call
+pub record Entry : Type 0 where
+  pub ask : Ask
+  pub reply : Reply
+
+-- [Account.3]
+abbrev pub logOf : List Call → Supervisor → List Entry
+logOf [] s = []
+logOf (c ∷ cs) s = record { ask = c .ask; reply = callOf c s .reply } ∷ logOf cs (callOf c s .next)

@@ -1,0 +1,269 @@
+-- The core: all of the record but the branches, which it sees through two facts. A tick of it: pulses, ready, main, user
+-- sync, the CSR's bits, the sync count and the scalers.
+--     document 01    "The tick"; "When a call is declined", Spoiled; Active
+--     isReadyOf      the ready rule
+--     latchOf        what becomes of the passed pulses
+--     mainStepOf, userStepOf   what main and the user sync do
+--     settledOf      the core after all of them, with what the tick reports
+--     stepOf         a tick of the core
+--     resetOf        the core after RESET
+--     soundnessOf    the clauses of the spoiled rule on the core
+-- All tests read the record at the tick's start ([Tick.2]): each part below is a function of that record alone.
+-- Own rules of 01 used here: none. Decisions: T1, T2, T3. Left out: nothing.
+-- Assumes nothing.
+use Prim.Native.Nat.{ℕ, _+_, _*_, _%_, _^_}
+use mathlib.Core.Bool.{Bool, true, false, not, _&&_, _||_}
+use mathlib.Core.List.{List, [], _∷_}
+use lib.Dec.{eqb}
+use lib.ListN.{getD}
+use Rattle.bits.specs.Notation.{if_then_else_, _▷_}
+use Rattle.bits.specs.Bits.{oneIfOf, allTrue}
+use Rattle.registers.specs.Csr as csr
+use Rattle.registers.specs.Control as control
+use Rattle.registers.specs.Registers.{isValidControl, isValidAssign}
+use Rattle.registers.specs.declared.csr.Csr.{Csr}
+use Rattle.prescaler.specs.Prescaler as prescaler
+use Rattle.prescaler.specs.declared.Prescaled.{Prescaled}
+use Rattle.timers.specs.Timers as timers
+use Rattle.sync.specs.SyncCounter as counter
+use Rattle.sync.specs.UserSync as user
+use Rattle.sync.specs.declared.counter.SyncCounter.{SyncCounter}
+use Rattle.sync.specs.declared.user.UserStep.{UserStep}
+use Rattle.sequencer.specs.MemoryWord.{isOkWord}
+use Rattle.sequencer.specs.MainFields.{quiet}
+use Rattle.sequencer.specs.States.{isIdle, isLoaded, isEvent}
+use Rattle.sequencer.specs.MainSequencer as main
+use Rattle.sequencer.specs.declared.main_sequencer.Outcome.{Outcome}
+use Rattle.sequencer.specs.declared.main_sequencer.Outcome.the-variants.{Tag}
+use Rattle.sequencer.specs.declared.main_sequencer.Tests.{Tests}
+use Rattle.sequencer.specs.declared.main_sequencer.MainStep.{MainStep}
+use Rattle.scalers.specs.Scalers as scalers
+use Rattle.scalers.specs.declared.Signals.{Signals}
+use Rattle.core.specs.Lines.{hasStrobe, hasPass2, hasFail2, hasPass3, hasFail3, hasFrontBusy, hasInhibit}
+use Rattle.core.specs.declared.lines.Lines.{Lines}
+use Rattle.core.specs.declared.lines.Inputs.{Inputs}
+use Rattle.core.specs.declared.Core.{Core}
+use Rattle.core.specs.declared.Latch.{Latch}
+use Rattle.core.specs.declared.Masks.{Masks}
+use Rattle.core.specs.declared.CoreStep.{CoreStep}
+
+-- ---- fresh, and RESET
+
+-- [Registers.4] all zero, all idle
+unfoldable pub freshOf : Core
+freshOf =
+    record {
+      prescalers = prescaler.freshOf;
+      csr = csr.freshOf;
+      control = control.freshOf;
+      scalers = scalers.freshOf;
+      main = main.idleOf;
+      timers = timers.freshOf;
+      sync = counter.freshOf;
+      user = user.freshOf;
+    }
+
+-- [CSRWrite.2d] the sequencers idle, scalers and sync count 0, every prescale counter loaded; the CSR's own bits are
+-- cleared by the write
+unfoldable pub resetOf : Core → Core
+resetOf c =
+    record {
+      prescalers = prescaler.reloadedOf (c .prescalers);
+      csr = c .csr;
+      control = c .control;
+      scalers = scalers.resetOf (c .scalers);
+      main = main.idleOf;
+      timers = c .timers;
+      sync = counter.zeroedOf (c .sync);
+      user = user.freshOf;
+    }
+
+-- ---- pulses
+
+-- [Pulses.2] GO or OPEN PRESCALES
+abbrev pub isRunning : Core → Bool
+isRunning c = csr.isGo (c .csr) || control.opensPrescales (c .control)
+
+unfoldable pub pulsedOf : Inputs → Core → Prescaled
+pulsedOf x c =
+    prescaler.stepOf (isRunning c) (control.countedOf (hasStrobe (x .lines)) (x .triggers) (c .control)) (c .prescalers)
+
+-- ---- ready, and what becomes of the passed pulses
+
+-- [Ready.1] inhibit low or overridden
+abbrev pub isUninhibited : Lines → Csr → Bool
+isUninhibited l w = not (hasInhibit l) || csr.overridesInhibit w
+
+-- [Ready.1] the rule but for main at Idle
+abbrev pub isOpenOf : Lines → Core → Bool
+isOpenOf l c =
+    csr.isGo (c .csr)
+    && (not (csr.wantsUserSync (c .csr)) && (not (c .user .waiting) && (not (hasFrontBusy l) && isUninhibited l (c .csr))))
+
+-- [Ready.1]
+abbrev pub isReadyOf : Lines → Core → Bool
+isReadyOf l c = isIdle (c .main .state) && isOpenOf l c
+
+-- [Memory.1] the word at the place of the pattern
+abbrev pub wordAtOf : List ℕ → (pattern : ℕ) → ℕ
+wordAtOf memory pattern = getD memory pattern 0
+
+-- [Ready.2] [Ready.4] [Ready.5] lost if not ready; else all rejected or all accepted. With none passed every mask is 0
+abbrev pub latchOf : (ready ok : Bool) (passed : ℕ) → Latch
+latchOf ready ok passed =
+    record {
+      lost = if ready then 0 else passed;
+      rejected = if ready && not ok then passed else 0;
+      accepted = if ready && ok then passed else 0;
+    }
+
+-- ---- main and user sync
+
+-- [Main.6]–[Main.15] the tests of main, at the risen age
+unfoldable pub testsOf : (room empty : Bool) (age : ℕ) → Lines → Core → Tests
+testsOf room empty age l c =
+    record {
+      fail2 = hasFail2 l;
+      pass2 = hasPass2 l;
+      fail3 = hasFail3 l;
+      pass3 = hasPass3 l;
+      late = timers.isLateDue (csr.usesT1 (c .csr)) age (c .timers);
+      due2 = timers.isReached age (c .timers .t2);
+      due3 = timers.isReached age (c .timers .t3);
+      front = timers.frontTestOf (hasFrontBusy l) (csr.usesT4 (c .csr)) age (c .timers);
+      sync = counter.isDue (csr.enablesSync (c .csr)) (c .sync);
+      room = room;
+      empty = empty;
+      clear = timers.clearCountOf (csr.usesT5 (c .csr)) (c .timers);
+    }
+
+-- [Main.1] the age rises first; at Idle nothing moves
+abbrev pub cycleStepOf : (room empty : Bool) → Lines → Core → MainStep
+cycleStepOf room empty l c =
+    main.stepOf (testsOf room empty (main.agedOf (c .main) .age) l c) (main.agedOf (c .main))
+
+-- [Ready.5] an accepted pattern starts a cycle
+unfoldable pub mainStepOf : (room empty : Bool) → Lines → Latch → (word : ℕ) → Core → MainStep
+mainStepOf room empty l latch word c =
+    if scalers.isSome (latch .accepted) then quiet (main.acceptedOf word (c .main)) else cycleStepOf room empty l c
+
+-- [Usersync.1] [Usersync.2]
+abbrev pub userStepOf : (empty : Bool) → Core → UserStep
+userStepOf empty c = user.stepOf (csr.wantsUserSync (c .csr)) (isIdle (c .main .state)) empty (c .user)
+
+-- ---- what follows from the moves
+
+-- [Main.11] [Usersync.1] a word with the sync bit is loaded
+abbrev pub loadsSync : MainStep → UserStep → Bool
+loadsSync m u = m .sync || u .tag
+
+-- [Ready.6] [Main.6] [Main.11] status bits 16, 17 and 18
+abbrev pub statusOf : (inhibit late sync : Bool) → ℕ
+statusOf inhibit late sync = oneIfOf inhibit * 2 ^ 16 + oneIfOf late * 2 ^ 17 + oneIfOf sync * 2 ^ 18
+
+-- [Main.14] [Usersync.2] what the end of Sync hold and of a user sync clear; then the status bits
+unfoldable pub csrAfterOf : Lines → MainStep → UserStep → Csr → Csr
+csrAfterOf l m u w =
+    w ▷ csr.syncHoldEndedIfOf (m .ended) ▷ csr.userSyncEndedIfOf (u .ended)
+    ▷ csr.markedOf (statusOf (hasInhibit l) (m .late) (loadsSync m u))
+
+-- [Main.10] [Main.14] [Usersync.2]
+unfoldable pub syncAfterOf : (enabled : Bool) → MainStep → UserStep → SyncCounter → SyncCounter
+syncAfterOf enabled m u s =
+    if m .ended || u .ended then counter.zeroedOf s
+    else if isEvent (m .outcome) then counter.afterLoadOf enabled s
+    else s
+
+-- [Usersync.1] [Answer.1] a tag is loaded only at Idle, where main has no outcome
+abbrev pub outcomeOf : MainStep → UserStep → Outcome
+outcomeOf m u = if u .tag then Tag user.tagWord else m .outcome
+
+abbrev pub signalsOf : (passed : ℕ) → Latch → MainStep → UserStep → Signals
+signalsOf passed latch m u =
+    record {
+      passed = passed;
+      rejected = latch .rejected;
+      accepted = latch .accepted;
+      event = isEvent (m .outcome);
+      failed2 = m .failed2;
+      failed3 = m .failed3;
+      late = m .late;
+      sync = loadsSync m u;
+    }
+
+abbrev pub masksOf : Prescaled → Latch → Masks
+masksOf p latch =
+    record {
+      stopped = p .stopped;
+      scaled = p .scaled;
+      lost = latch .lost;
+      rejected = latch .rejected;
+      accepted = latch .accepted;
+    }
+
+-- [Tick.3] the core put together again
+unfoldable pub settledOf : Lines → Prescaled → Latch → MainStep → UserStep → Core → CoreStep
+settledOf l p latch m u c =
+    record {
+      next = record {
+        prescalers = p .next;
+        csr = csrAfterOf l m u (c .csr);
+        control = c .control;
+        scalers = scalers.countedOf (signalsOf (p .passed) latch m u) (c .scalers);
+        main = m .next;
+        timers = c .timers;
+        sync = syncAfterOf (csr.enablesSync (c .csr)) m u (c .sync);
+        user = u .next;
+      };
+      masks = masksOf p latch;
+      outcome = outcomeOf m u;
+    }
+
+-- ---- a tick of the core; room and empty are what it sees of the branches
+
+abbrev pub latchedOf : Inputs → List ℕ → Core → Latch
+latchedOf x memory c =
+    latchOf (isReadyOf (x .lines) c) (isOkWord (wordAtOf memory (pulsedOf x c .passed))) (pulsedOf x c .passed)
+
+unfoldable pub stepOf : (room empty : Bool) → Inputs → List ℕ → Core → CoreStep
+stepOf room empty x memory c =
+    settledOf (x .lines) (pulsedOf x c) (latchedOf x memory c)
+    (mainStepOf room empty (x .lines) (latchedOf x memory c) (wordAtOf memory (pulsedOf x c .passed)) c)
+    (userStepOf empty c) c
+
+-- ---- lines out, and what the record's other rules ask of the core
+
+-- [Answer.1] the raised lines in bits 0–4, clear, CSR bit 5, and the accept pattern in bits 8–15
+unfoldable pub linesOutOf : Core → ℕ
+linesOutOf c =
+    c .main .raised % 32
+    + 32 * oneIfOf (main.isClearing (c .main))
+    + 64 * oneIfOf (csr.enablesLevel1 (c .csr))
+    + 256 * c .main .accept
+
+-- [Active.1] GO, main not Idle, a user sync that waits or is wanted
+abbrev pub isActiveOf : Core → Bool
+isActiveOf c =
+    csr.isGo (c .csr)
+    || (not (isIdle (c .main .state)) || (c .user .waiting || csr.wantsUserSync (c .csr)))
+
+-- [Spoiled.1f] a queue may hold eight words: main at Space or Sync hold, or a user sync waits
+abbrev pub allowsEightOf : Core → Bool
+allowsEightOf c = isLoaded (c .main .state) || c .user .waiting
+
+-- the clauses of the spoiled rule on the core: all hold in a record that is not spoiled
+-- [Spoiled.1e] [Spoiled.1a] factors, CSR, control, assign; [Spoiled.1b] [Spoiled.1c] [Spoiled.1i]; [Spoiled.1h]; [Spoiled.1k]
+abbrev pub soundnessOf : Core → List Bool
+soundnessOf c =
+    prescaler.hasCountersWithinOf (c .prescalers)
+    ∷ prescaler.hasValidFactorsOf (c .prescalers)
+    ∷ csr.isValidStoredCsr (c .csr)
+    ∷ isValidControl (c .control .word)
+    ∷ isValidAssign (c .scalers .assign)
+    ∷ main.isWellFormedOf (c .main)
+    ∷ counter.isWithin (c .sync)
+    ∷ (not (c .user .waiting) || isIdle (c .main .state))
+    ∷ []
+
+unfoldable pub isSoundOf : Core → Bool
+isSoundOf c = allTrue (soundnessOf c)

@@ -1,0 +1,28 @@
+-- Changes of one field of the core. Nothing of document 01 is decided here.
+--     withCsr v c   c with the CSR v; and so on, one for each field that a call changes by itself
+-- Assumes nothing.
+use Rattle.registers.specs.declared.csr.Csr.{Csr}
+use Rattle.registers.specs.declared.control.Control.{Control}
+use Rattle.prescaler.specs.declared.Prescalers.{Prescalers}
+use Rattle.timers.specs.declared.Timers.{Timers}
+use Rattle.sync.specs.declared.counter.SyncCounter.{SyncCounter}
+use Rattle.scalers.specs.declared.Scalers.{Scalers}
+use Rattle.core.specs.declared.Core.{Core}
+
+abbrev pub withPrescalers : Prescalers → Core → Core
+withPrescalers v c = record { prescalers = v; csr = c .csr; control = c .control; scalers = c .scalers; main = c .main; timers = c .timers; sync = c .sync; user = c .user }
+
+abbrev pub withCsr : Csr → Core → Core
+withCsr v c = record { prescalers = c .prescalers; csr = v; control = c .control; scalers = c .scalers; main = c .main; timers = c .timers; sync = c .sync; user = c .user }
+
+abbrev pub withControl : Control → Core → Core
+withControl v c = record { prescalers = c .prescalers; csr = c .csr; control = v; scalers = c .scalers; main = c .main; timers = c .timers; sync = c .sync; user = c .user }
+
+abbrev pub withScalers : Scalers → Core → Core
+withScalers v c = record { prescalers = c .prescalers; csr = c .csr; control = c .control; scalers = v; main = c .main; timers = c .timers; sync = c .sync; user = c .user }
+
+abbrev pub withTimers : Timers → Core → Core
+withTimers v c = record { prescalers = c .prescalers; csr = c .csr; control = c .control; scalers = c .scalers; main = c .main; timers = v; sync = c .sync; user = c .user }
+
+abbrev pub withSync : SyncCounter → Core → Core
+withSync v c = record { prescalers = c .prescalers; csr = c .csr; control = c .control; scalers = c .scalers; main = c .main; timers = c .timers; sync = v; user = c .user }

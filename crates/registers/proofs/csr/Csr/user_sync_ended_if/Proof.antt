@@ -1,0 +1,20 @@
+-- `registers::csr::Csr::user_sync_ended_if` meets its contract: WHY.
+-- Written by tools/prove.py; no answer was changed by hand. Assumes nothing.
+use Rattle.registers.specs.Csr.{userSyncEndedIfOf}
+use borrow.Author.Needs.{needs}
+use Rattle.registers.proofs.csr.Csr.user_sync_ended_if.Statement.{statement}
+use Rattle.registers.proofs.csr.Csr.user_sync_ended_if.Tie as tie
+
+user-sync-ended-requires : tie.Need-user-sync-ended-requires
+user-sync-ended-requires c κs = search needs
+
+returns : tie.Need-returns
+unfolding userSyncEndedIfOf
+returns c = rw (c .user-sync-ended .ensures, c .before .if1 .taken)
+
+returns-2 : tie.Need-returns-2
+unfolding userSyncEndedIfOf
+returns-2 c = rw (c .if1 .left)
+
+pub user-sync-ended-if-spec : {M : Type 1} → statement M
+user-sync-ended-if-spec = tie.close (tie.spec user-sync-ended-requires returns returns-2)

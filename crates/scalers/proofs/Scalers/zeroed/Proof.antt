@@ -1,0 +1,14 @@
+-- `scalers::Scalers::zeroed` meets its contract: WHY.
+-- Written by tools/prove.py; no answer was changed by hand. Assumes nothing.
+use borrow.Author.Tests.{eq-eqb, ne-eqb}
+use Rattle.scalers.proofs.Scalers.zeroed.Statement.{statement}
+use Rattle.scalers.proofs.Scalers.zeroed.Tie as tie
+
+returns : tie.Need-returns
+returns c = rw (eq-eqb _ _ (c .if1 .taken))
+
+returns-2 : tie.Need-returns-2
+returns-2 c = rw (ne-eqb _ _ (c .if1 .left))
+
+pub zeroed-spec : {M : Type 1} → statement M
+zeroed-spec = tie.close (tie.spec returns returns-2)

@@ -1,0 +1,94 @@
+-- The supervisor: the whole record, the fresh one, the active and the spoiled rule, and the tick.
+--     document 01    "Registers", a fresh record; Active; "The tick"; "When a call is declined", Spoiled
+--     freshOf        the fresh record, of any number of branches: the module has four
+--     resetOf        the record after RESET
+--     isActiveOf, isSpoiledOf   the two rules
+--     tickedOf       the tick: the next record and the answer
+-- The core and the branches meet here alone: two facts one way, the word to load the other.
+-- Own rules of 01 used here: none. Decisions: T1, T4. Left out: the declines, in calls.
+-- Assumes nothing.
+use Prim.Native.Nat.{ℕ}
+use mathlib.Core.Bool.{Bool, not, _&&_, _||_}
+use mathlib.Core.List.{List}
+use lib.ListN.{length}
+use Rattle.registers.specs.Csr as csr
+use Rattle.branch.specs.declared.Slot.{Slot}
+use Rattle.branch.specs.declared.Slot.the-variants.{Nothing, Word}
+use Rattle.branches.specs.Readout as readout
+use Rattle.branches.specs.declared.Readout.{Readout}
+use Rattle.branches.specs.declared.ReadoutStep.{ReadoutStep}
+use Rattle.sequencer.specs.declared.main_sequencer.Outcome.{Outcome}
+use Rattle.sequencer.specs.declared.main_sequencer.Outcome.the-variants.{Cleared, Event, Tag}
+use Rattle.sequencer.specs.declared.main_sequencer.Outcome.the-variants as outcome
+use Rattle.core.specs.Core as core
+use Rattle.core.specs.declared.lines.Inputs.{Inputs}
+use Rattle.core.specs.declared.Core.{Core}
+use Rattle.core.specs.declared.CoreStep.{CoreStep}
+use Rattle.supervisor.specs.declared.Supervisor.{Supervisor}
+use Rattle.supervisor.specs.declared.Answer.{Answer}
+use Rattle.supervisor.specs.declared.Ticked.{Ticked}
+
+-- ---- changes of one part
+
+abbrev pub withReadout : Readout → Supervisor → Supervisor
+withReadout v s = record { readout = v; core = s .core }
+
+abbrev pub withCore : Core → Supervisor → Supervisor
+withCore v s = record { readout = s .readout; core = v }
+
+-- ---- fresh, and RESET
+
+-- [Registers.4] all zero, all idle
+unfoldable pub freshOf : (branches : ℕ) → Supervisor
+freshOf n = record { readout = readout.freshOf n; core = core.freshOf }
+
+-- [CSRWrite.1] INITIALIZE: a fresh record with as many branches
+unfoldable pub initializedOf : Supervisor → Supervisor
+initializedOf s = freshOf (length (s .readout .branches))
+
+-- [CSRWrite.2d]
+unfoldable pub resetOf : Supervisor → Supervisor
+resetOf s = record { readout = readout.emptiedOf (s .readout); core = core.resetOf (s .core) }
+
+-- ---- two rules on the record
+
+-- [Active.1]
+unfoldable pub isActiveOf : Supervisor → Bool
+isActiveOf s = core.isActiveOf (s .core) || not (readout.isQuietOf (s .readout))
+
+-- 01 calls such a record spoiled: some clause of its list does not hold
+-- [Spoiled.1d] [Spoiled.1f] [Spoiled.1g] of the branches; the other clauses of the core
+unfoldable pub isSpoiledOf : Supervisor → Bool
+isSpoiledOf s =
+    not (readout.isWellFormedOf (core.allowsEightOf (s .core)) (s .readout) && core.isSoundOf (s .core))
+
+-- ---- the tick
+
+-- [Branches.5] [Account.15] what an outcome loads onto every branch
+abbrev pub loadOf : Outcome → Slot
+loadOf outcome.Nothing = Nothing
+loadOf Cleared = Nothing
+loadOf (Event w) = Word w
+loadOf (Tag w) = Word w
+
+-- [Main.13] [Main.14] [Usersync.2] the core's step, with the two facts of the branches at the tick's start
+unfoldable pub coreStepOf : List ℕ → Inputs → Supervisor → CoreStep
+coreStepOf memory x s =
+    core.stepOf
+    (readout.hasRoomOf (csr.locksRoc (s .core .csr)) (csr.locksBranch4 (s .core .csr)) (s .readout))
+    (readout.isEmptyOf (s .readout)) x memory (s .core)
+
+-- the branches' step, with the word that the core loads
+unfoldable pub readoutStepOf : Inputs → Outcome → Supervisor → ReadoutStep
+readoutStepOf x o s = readout.stepOf (x .acks) (loadOf o) (s .readout)
+
+-- [Tick.3] [Answer.1] lines out are those after the tick
+unfoldable pub joinedOf : CoreStep → ReadoutStep → Ticked
+joinedOf c r =
+    record {
+      next = record { readout = r .next; core = c .next };
+      answer = record { masks = c .masks; lines = core.linesOutOf (c .next); outcome = c .outcome; sides = r .sides };
+    }
+
+unfoldable pub tickedOf : List ℕ → Inputs → Supervisor → Ticked
+tickedOf memory x s = joinedOf (coreStepOf memory x s) (readoutStepOf x (coreStepOf memory x s .outcome) s)
