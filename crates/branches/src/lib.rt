@@ -2,6 +2,7 @@
 // rest of the record sees the branches through these tests alone, and they see it through the word to load.
 // The definitions are in specs/Readout.antt, over any number of branches.
 ghost use mathlib.Core.Path.{_≡_};
+ghost use lib.ListN.{length};
 ghost use Rattle.branches.specs.Readout.{moduleBranches, freshOf, emptiedOf, isEmptyOf, hasRoomOf};
 ghost use Rattle.branches.specs.Readout.{isQuietOf, sideAfterOf, gatheredOf, silentOf, stepOf};
 ghost use Rattle.branches.specs.Readout.{isSoundOf, isBlankOf, isWellFormedOf};
@@ -93,6 +94,13 @@ impl Readout {
             branches: [b, b, b, b],
             roc: 0,
         }
+    }
+
+    // [CSRWrite.1] INITIALIZE: fresh, with as many branches
+    pub fn initialized(self) -> Readout
+        ensures { λ r. ⌜ r ≡ freshOf (length (self .branches)) ⌝ }
+    {
+        Readout::fresh()
     }
 
     // [CSRWrite.2d] RESET

@@ -26,8 +26,8 @@ use Rattle.calls.specs.declared.Decline.{Decline}
 use Rattle.calls.specs.declared.Decline.the-variants.{Spoiled, Length, Place, Active, Value}
 use Rattle.calls.specs.declared.Verdict.the-variants.{Done, Declined}
 use Rattle.calls.specs.declared.Reading.the-variants as reading
-use Rattle.calls.specs.declared.Written.{Written}
-use Rattle.calls.specs.declared.ReadOut.{ReadOut}
+use Rattle.calls.specs.declared.WriteDone.{WriteDone}
+use Rattle.calls.specs.declared.ReadDone.{ReadDone}
 use Rattle.calls.specs.declared.TickDone.{TickDone}
 
 -- ---- constants of document 01
@@ -64,10 +64,10 @@ readError = 2 ^ 20
 unfoldable pub markedOf : (status : ℕ) → Supervisor → Supervisor
 markedOf status s = s ▷ withCore (s .core ▷ withCsr (csr.markedOf status (s .core .csr)))
 
-abbrev refuse : Decline → Supervisor → Written
+abbrev pub refuse : Decline → Supervisor → WriteDone
 refuse d s = record { next = s; answer = Declined d }
 
-abbrev refuseRead : Decline → Supervisor → ReadOut
+abbrev pub refuseRead : Decline → Supervisor → ReadDone
 refuseRead d s = record { next = s; answer = reading.Declined d }
 
 -- ---- register calls
@@ -77,7 +77,7 @@ abbrev pub isProtected : (number : ℕ) → Bool
 isProtected number = leb 1 number && leb number lastProtected
 
 -- [Declines.2a] [Declines.2b] [Declines.2c] [Declines.2d] in this order
-unfoldable pub writeRegisterOf : (number v : ℕ) → Supervisor → Written
+unfoldable pub writeRegisterOf : (number v : ℕ) → Supervisor → WriteDone
 writeRegisterOf number v s =
     if isSpoiledOf s then refuse Spoiled s
     else if ltb lastRegister number then refuse Place s
@@ -86,7 +86,7 @@ writeRegisterOf number v s =
     else record { next = writtenOf (numberedOf number) v s; answer = Done }
 
 -- [Declines.3a] [Declines.3b]
-unfoldable pub readRegisterOf : (number : ℕ) → Supervisor → ReadOut
+unfoldable pub readRegisterOf : (number : ℕ) → Supervisor → ReadDone
 readRegisterOf number s =
     if isSpoiledOf s then refuseRead Spoiled s
     else if ltb lastRegister number then refuseRead Place s
@@ -95,7 +95,7 @@ readRegisterOf number s =
 -- ---- memory calls; memory is what is lent, of any length
 
 -- [Declines.4a] [Declines.4b] [Declines.4c] [Declines.4d] in this order
-unfoldable pub writeMemoryOf : List ℕ → (place : ℕ) → Supervisor → Written
+unfoldable pub writeMemoryOf : List ℕ → (place : ℕ) → Supervisor → WriteDone
 writeMemoryOf memory place s =
     if isSpoiledOf s then refuse Spoiled s
     else if not (eqb (length memory) memoryPlaces) then refuse Length s
@@ -113,7 +113,7 @@ memoryAfterOf memory place word s =
     else set memory place word
 
 -- [Declines.4a] [Declines.4b] [Declines.4c] [Declines.4d] the same declines, and status 20
-unfoldable pub readMemoryOf : List ℕ → (place : ℕ) → Supervisor → ReadOut
+unfoldable pub readMemoryOf : List ℕ → (place : ℕ) → Supervisor → ReadDone
 readMemoryOf memory place s =
     if isSpoiledOf s then refuseRead Spoiled s
     else if not (eqb (length memory) memoryPlaces) then refuseRead Length s
@@ -133,7 +133,7 @@ noMasks =
       sides = noSide ∷ noSide ∷ noSide ∷ noSide ∷ [];
     }
 
-abbrev refuseTick : Decline → Supervisor → TickDone
+abbrev pub refuseTick : Decline → Supervisor → TickDone
 refuseTick d s = record { next = s; verdict = Declined d; answer = noMasks }
 
 -- [Declines.5c]

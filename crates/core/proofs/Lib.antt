@@ -1,1 +1,2 @@
--- The laws. Assumes nothing.
+-- The laws, in the order of reading; the proofs of functions stand in folders of their own. Assumes nothing.
+pub mod CoreChoices

@@ -1,6 +1,7 @@
 // The core of the supervisor: all of the record but the branches (document 01, "The tick"). It sees the branches
 // through two facts, every one empty and every one below its depth. The definitions are in specs/Core.antt.
 ghost use mathlib.Core.Path.{_≡_};
+ghost use Rattle.sequencer.specs.MemoryWord.{isOkWord};
 ghost use Rattle.core.specs.Core.{freshOf, resetOf, isRunning, pulsedOf, isUninhibited, isOpenOf, wordAtOf};
 ghost use Rattle.core.specs.Core.{latchOf, testsOf, cycleStepOf, statusOf, csrAfterOf, syncAfterOf, outcomeOf};
 ghost use Rattle.core.specs.Core.{signalsOf, masksOf, settledOf, stepOf, linesOutOf, isActiveOf, allowsEightOf, isSoundOf};
@@ -9,12 +10,16 @@ use prescaler::Prescaled;
 use prescaler::Prescalers;
 use registers::control::Control;
 use registers::csr::Csr;
+use registers::register::is_valid_assign;
+use registers::register::is_valid_control;
 use scalers::Scalers;
 use scalers::Signals;
 use sequencer::main_sequencer::MainSequencer;
 use sequencer::main_sequencer::MainStep;
 use sequencer::main_sequencer::Outcome;
 use sequencer::main_sequencer::Tests;
+use sequencer::main_sequencer::quiet_step;
+use sequencer::memory_word::is_ok_word;
 use sync::counter::SyncCounter;
 use sync::user::UserStep;
 use sync::user::UserSync;
@@ -60,4 +65,338 @@ pub struct CoreStep {
     pub next: Core,
     pub masks: Masks,
     pub outcome: Outcome,
+}
+
+// [Memory.1] the word at the place of a pattern, 0 past the memory's end
+fn word_at(memory: &[u16], pattern: u32) -> u16
+    ensures { λ r. ⌜ r ≡ wordAtOf (now (memory .entry)) pattern ⌝ }
+{
+    let place = pattern as usize;
+    if place < memory.len() {
+        return memory[place];
+    }
+    0
+}
+
+// [Ready.2] [Ready.4] [Ready.5] with none passed the memory is not read
+fn latched_pulses(ready: bool, passed: u32, memory: &[u16]) -> Latch
+    ensures { λ r. ⌜ r ≡ latchOf ready (isOkWord (wordAtOf (now (memory .entry)) passed)) passed ⌝ }
+{
+    if !ready {
+        return Latch {
+            lost: passed,
+            rejected: 0,
+            accepted: 0,
+        };
+    }
+    if passed == 0 {
+        return Latch {
+            lost: 0,
+            rejected: 0,
+            accepted: 0,
+        };
+    }
+    if is_ok_word(word_at(memory, passed)) {
+        return Latch {
+            lost: 0,
+            rejected: 0,
+            accepted: passed,
+        };
+    }
+    Latch {
+        lost: 0,
+        rejected: passed,
+        accepted: 0,
+    }
+}
+
+// [Ready.6] [Main.6] [Main.11] status bits 16, 17 and 18
+fn status(inhibit: bool, late: bool, sync: bool) -> u32
+    ensures { λ r. ⌜ r ≡ statusOf inhibit late sync ⌝ }
+{
+    bits::one_if(inhibit) * 65536 + bits::one_if(late) * 131072 + bits::one_if(sync) * 262144
+}
+
+fn csr_after(csr: Csr, lines: Lines, m: MainStep, u: UserStep) -> Csr
+    ensures { λ r. ⌜ r ≡ csrAfterOf lines m u csr ⌝ }
+{
+    let marks = status(lines.has_inhibit(), m.late, m.sync | u.tag);
+    let held = csr.sync_hold_ended_if(m.ended);
+    let waited = held.user_sync_ended_if(u.ended);
+    waited.marked(marks)
+}
+
+fn sync_after(sync: SyncCounter, enabled: bool, m: MainStep, u: UserStep) -> SyncCounter
+    ensures { λ r. ⌜ r ≡ syncAfterOf enabled m u sync ⌝ }
+{
+    let outcome = m.outcome;
+    if m.ended | u.ended {
+        return sync.zeroed();
+    }
+    if outcome.is_event() {
+        return sync.after_load(enabled);
+    }
+    sync
+}
+
+fn outcome_after(m: MainStep, u: UserStep) -> Outcome
+    ensures { λ r. ⌜ r ≡ outcomeOf m u ⌝ }
+{
+    if u.tag {
+        return Outcome::Tag(UserSync::TAG);
+    }
+    m.outcome
+}
+
+fn signals_of(passed: u32, latch: Latch, m: MainStep, u: UserStep) -> Signals
+    ensures { λ r. ⌜ r ≡ signalsOf passed latch m u ⌝ }
+{
+    let outcome = m.outcome;
+    Signals {
+        passed,
+        rejected: latch.rejected,
+        accepted: latch.accepted,
+        event: outcome.is_event(),
+        failed2: m.failed2,
+        failed3: m.failed3,
+        late: m.late,
+        sync: m.sync | u.tag,
+    }
+}
+
+fn masks_of(p: Prescaled, latch: Latch) -> Masks
+    ensures { λ r. ⌜ r ≡ masksOf p latch ⌝ }
+{
+    Masks {
+        stopped: p.stopped,
+        scaled: p.scaled,
+        lost: latch.lost,
+        rejected: latch.rejected,
+        accepted: latch.accepted,
+    }
+}
+
+impl Core {
+    // [Registers.4] all zero, all idle
+    pub fn fresh() -> Core
+        ensures { λ r. ⌜ r ≡ freshOf ⌝ }
+    {
+        Core {
+            prescalers: Prescalers::fresh(),
+            csr: Csr::fresh(),
+            control: Control::fresh(),
+            scalers: Scalers::fresh(),
+            main: MainSequencer::idle(),
+            timers: Timers::fresh(),
+            sync: SyncCounter::fresh(),
+            user: UserSync::fresh(),
+        }
+    }
+
+    // [CSRWrite.2d] RESET, but for the CSR's own bits
+    pub fn reset(self) -> Core
+        ensures { λ r. ⌜ r ≡ resetOf self ⌝ }
+    {
+        let csr = self.csr;
+        let control = self.control;
+        let timers = self.timers;
+        Core {
+            prescalers: self.prescalers.reloaded(),
+            csr,
+            control,
+            scalers: self.scalers.reset(),
+            main: MainSequencer::idle(),
+            timers,
+            sync: self.sync.zeroed(),
+            user: UserSync::fresh(),
+        }
+    }
+
+    // [Pulses.1] [Pulses.2] the counted pulses of a tick through the prescalers
+    fn pulsed(self, x: Inputs) -> Prescaled
+        ensures { λ r. ⌜ r ≡ pulsedOf x self ⌝ }
+    {
+        let csr = self.csr;
+        let control = self.control;
+        let prescalers = self.prescalers;
+        let lines = x.lines;
+        let runs = csr.is_go() | control.opens_prescales();
+        prescalers.step(runs, control.counted(x.triggers, lines.has_strobe()))
+    }
+
+    // [Ready.1] the ready rule but for main at Idle
+    fn is_open(self, lines: Lines) -> bool
+        ensures { λ r. ⌜ r ≡ isOpenOf lines self ⌝ }
+    {
+        let csr = self.csr;
+        let user = self.user;
+        let uninhibited = !lines.has_inhibit() | csr.overrides_inhibit();
+        csr.is_go()
+            & (!csr.wants_user_sync() & (!user.waiting & (!lines.has_front_busy() & uninhibited)))
+    }
+
+    // [Main.6]–[Main.15] the tests of main, at the risen age
+    fn tests(self, lines: Lines, age: u32, room: bool, empty: bool) -> Tests
+        ensures { λ r. ⌜ r ≡ testsOf room empty age lines self ⌝ }
+    {
+        let csr = self.csr;
+        let timers = self.timers;
+        let t2 = timers.t2;
+        let t3 = timers.t3;
+        let sync = self.sync;
+        Tests {
+            fail2: lines.has_fail2(),
+            pass2: lines.has_pass2(),
+            fail3: lines.has_fail3(),
+            pass3: lines.has_pass3(),
+            late: timers.is_late_due(csr.uses_t1(), age),
+            due2: t2.is_reached(age),
+            due3: t3.is_reached(age),
+            front: timers.front_test(lines.has_front_busy(), csr.uses_t4(), age),
+            sync: sync.is_due(csr.enables_sync()),
+            room,
+            empty,
+            clear: timers.clear_count(csr.uses_t5()),
+        }
+    }
+
+    // [Tick.3] the core put together again
+    fn settled(self, lines: Lines, p: Prescaled, latch: Latch, m: MainStep, u: UserStep) -> CoreStep
+        ensures { λ r. ⌜ r ≡ settledOf lines p latch m u self ⌝ }
+    {
+        let csr = self.csr;
+        let control = self.control;
+        let timers = self.timers;
+        let prescalers = p.next;
+        let main = m.next;
+        let user = u.next;
+        let next = Core {
+            prescalers,
+            csr: csr_after(csr, lines, m, u),
+            control,
+            scalers: self.scalers.counted(signals_of(p.passed, latch, m, u)),
+            main,
+            timers,
+            sync: sync_after(self.sync, csr.enables_sync(), m, u),
+            user,
+        };
+        CoreStep {
+            next,
+            masks: masks_of(p, latch),
+            outcome: outcome_after(m, u),
+        }
+    }
+
+    // [Ready.5] an accepted pattern starts a cycle
+    fn idle_step(self, latch: Latch, memory: &[u16], passed: u32) -> MainStep
+        ensures { λ r. ⌜ r ≡ idleStepOf latch (wordAtOf (now (memory .entry)) passed) self ⌝ }
+    {
+        let main = self.main;
+        if latch.accepted == 0 {
+            return quiet_step(main);
+        }
+        quiet_step(main.accepted(word_at(memory, passed)))
+    }
+
+    fn at_idle(self, lines: Lines, p: Prescaled, memory: &[u16], empty: bool) -> CoreStep
+        ensures { λ r. ⌜ r ≡ idleHalfOf empty lines p (now (memory .entry)) self ⌝ }
+    {
+        let csr = self.csr;
+        let user = self.user;
+        let passed = p.passed;
+        let latch = latched_pulses(self.is_open(lines), passed, memory);
+        let m = self.idle_step(latch, memory, passed);
+        let u = user.step(csr.wants_user_sync(), true, empty);
+        self.settled(lines, p, latch, m, u)
+    }
+
+    fn in_cycle(self, lines: Lines, p: Prescaled, room: bool, empty: bool) -> CoreStep
+        ensures { λ r. ⌜ r ≡ cycleHalfOf room empty lines p self ⌝ }
+    {
+        let csr = self.csr;
+        let user = self.user;
+        let main = self.main;
+        let aged = main.aged();
+        let t = self.tests(lines, aged.age, room, empty);
+        let m = aged.step(t);
+        let u = user.step(csr.wants_user_sync(), false, empty);
+        let latch = Latch {
+            lost: p.passed,
+            rejected: 0,
+            accepted: 0,
+        };
+        self.settled(lines, p, latch, m, u)
+    }
+
+    // A tick; room and empty are what the core sees of the branches.
+    pub fn step(self, x: Inputs, memory: &[u16], room: bool, empty: bool) -> CoreStep
+        ensures { λ r. ⌜ r ≡ stepOf room empty x (now (memory .entry)) self ⌝ }
+    {
+        let main = self.main;
+        let state = main.state;
+        let lines = x.lines;
+        let p = self.pulsed(x);
+        if state.is_idle() {
+            return self.at_idle(lines, p, memory, empty);
+        }
+        self.in_cycle(lines, p, room, empty)
+    }
+
+    // [Answer.1]
+    pub fn lines_out(self) -> u32
+        ensures { λ r. ⌜ r ≡ linesOutOf self ⌝ }
+    {
+        let csr = self.csr;
+        let main = self.main;
+        let raised = (main.raised % 32) as u32;
+        let accept = main.accept as u32;
+        raised
+            + 32 * bits::one_if(main.is_clearing())
+            + 64 * bits::one_if(csr.enables_level1())
+            + 256 * accept
+    }
+
+    // [Active.1] but for the branches
+    pub fn is_active(self) -> bool
+        ensures { λ r. ⌜ r ≡ isActiveOf self ⌝ }
+    {
+        let csr = self.csr;
+        let main = self.main;
+        let state = main.state;
+        let user = self.user;
+        csr.is_go() | (!state.is_idle() | (user.waiting | csr.wants_user_sync()))
+    }
+
+    // [Spoiled.1f] a queue may hold eight words
+    pub fn allows_eight(self) -> bool
+        ensures { λ r. ⌜ r ≡ allowsEightOf self ⌝ }
+    {
+        let main = self.main;
+        let state = main.state;
+        let user = self.user;
+        state.is_loaded() | user.waiting
+    }
+
+    // The clauses of the spoiled rule on the core, in the order of the definition.
+    pub fn is_sound(self) -> bool
+        ensures { λ r. ⌜ r ≡ isSoundOf self ⌝ }
+    {
+        let csr = self.csr;
+        let control = self.control;
+        let main = self.main;
+        let state = main.state;
+        let user = self.user;
+        let sync = self.sync;
+        let prescalers = self.prescalers;
+        let counters = prescalers.has_counters_within();
+        let factors = prescalers.has_valid_factors();
+        let stored = csr.is_valid_stored_csr();
+        let enables = is_valid_control(control.word);
+        let assign = is_valid_assign(self.scalers.assign);
+        let sequencer = main.is_well_formed();
+        let count = sync.is_within();
+        let waits = !user.waiting | state.is_idle();
+        counters
+            & (factors & (stored & (enables & (assign & (sequencer & (count & (waits & true)))))))
+    }
 }

@@ -1,4 +1,4 @@
--- `branches::gathered` meets its contract: WHY.
+-- `branches::gathered` meets its contract: the literal is the definition, field by field.
 -- Written by tools/prove.py; no answer was changed by hand. Assumes nothing.
 use Rattle.branches.specs.Readout.{gatheredOf}
 use borrow.Author.Needs.{needs}

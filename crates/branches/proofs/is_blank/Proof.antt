@@ -1,4 +1,4 @@
--- `branches::is_blank` meets its contract: WHY.
+-- `branches::is_blank` meets its contract: the branch's own test, with no word in any place.
 -- Written by tools/prove.py; no answer was changed by hand. Assumes nothing.
 use borrow.Author.Needs.{needs}
 use Rattle.branches.proofs.is_blank.Statement.{statement}

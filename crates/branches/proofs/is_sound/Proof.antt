@@ -1,4 +1,4 @@
--- `branches::is_sound` meets its contract: WHY.
+-- `branches::is_sound` meets its contract: the branch's own two tests, joined as the definition joins them.
 -- Written by tools/prove.py; no answer was changed by hand. Assumes nothing.
 use borrow.Author.Needs.{needs}
 use Rattle.branches.proofs.is_sound.Statement.{statement}

@@ -1,4 +1,4 @@
--- `branches::Readout::fresh` meets its contract: WHY.
+-- `branches::Readout::fresh` meets its contract: four copies of the fresh branch.
 -- Written by tools/prove.py; no answer was changed by hand. Assumes nothing.
 use borrow.Author.Needs.{needs}
 use Rattle.branches.proofs.Readout.fresh.Statement.{statement}

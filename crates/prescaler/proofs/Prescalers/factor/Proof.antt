@@ -1,4 +1,4 @@
--- `prescaler::Prescalers::factor` meets its contract: WHY.
+-- `prescaler::Prescalers::factor` meets its contract: within the bank it is the factor at the input's place, else 0.
 -- Written by tools/prove.py; no answer was changed by hand. Assumes nothing.
 use Rattle.prescaler.specs.Prescaler.{factorOf}
 use borrow.Author.Tests.{le-leb, lt-leb}

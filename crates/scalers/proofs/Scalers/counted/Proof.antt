@@ -1,4 +1,4 @@
--- `scalers::Scalers::counted` meets its contract: WHY.
+-- `scalers::Scalers::counted` meets its contract: both scalers by what their calls ensure.
 -- Written by tools/prove.py; no answer was changed by hand. Assumes nothing.
 use Rattle.scalers.specs.Scalers.{countedOf}
 use borrow.Author.Needs.{needs}

@@ -1,4 +1,4 @@
--- `scalers::Scalers::stored` meets its contract: WHY.
+-- `scalers::Scalers::stored` meets its contract: one return for each scaler.
 -- Written by tools/prove.py; no answer was changed by hand. Assumes nothing.
 use borrow.Author.Tests.{eq-eqb, ne-eqb}
 use Rattle.scalers.proofs.Scalers.stored.Statement.{statement}

@@ -1,4 +1,4 @@
--- `scalers::Scalers::zeroed` meets its contract: WHY.
+-- `scalers::Scalers::zeroed` meets its contract: one return for each scaler.
 -- Written by tools/prove.py; no answer was changed by hand. Assumes nothing.
 use borrow.Author.Tests.{eq-eqb, ne-eqb}
 use Rattle.scalers.proofs.Scalers.zeroed.Statement.{statement}

@@ -1,4 +1,4 @@
--- `scalers::Signals::counts` meets its contract: WHY.
+-- `scalers::Signals::counts` meets its contract: the codes are tested as the definition tests them, in the same order.
 -- Written by tools/prove.py; no answer was changed by hand. Assumes nothing.
 use Rattle.scalers.specs.Scalers.{countsOf}
 use borrow.Author.Tests.{eq-eqb, le-leb, le-ltb, lt-leb, lt-ltb, ne-eqb}

@@ -1,4 +1,4 @@
--- `timers::Timers::written` meets its contract: WHY.
+-- `timers::Timers::written` meets its contract: one return for each timer.
 -- Written by tools/prove.py; no answer was changed by hand. Assumes nothing.
 use Rattle.timers.specs.Timers.{writtenOf}
 use borrow.Author.Tests.{eq-eqb, ne-eqb}

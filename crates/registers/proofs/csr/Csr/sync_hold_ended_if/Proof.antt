@@ -1,4 +1,4 @@
--- `registers::csr::Csr::sync_hold_ended_if` meets its contract: WHY.
+-- `registers::csr::Csr::sync_hold_ended_if` meets its contract: one return for each choice.
 -- Written by tools/prove.py; no answer was changed by hand. Assumes nothing.
 use Rattle.registers.specs.Csr.{syncHoldEndedIfOf}
 use borrow.Author.Needs.{needs}

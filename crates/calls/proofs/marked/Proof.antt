@@ -1,0 +1,19 @@
+-- `calls::marked` meets its contract: the CSR marked, put back into the core and the record.
+-- Written by tools/prove.py; no answer was changed by hand. Assumes nothing.
+use Rattle.calls.specs.Calls.{markedOf}
+use borrow.Author.Needs.{needs}
+use Rattle.calls.proofs.marked.Statement.{statement}
+use Rattle.calls.proofs.marked.Tie as tie
+
+marked-requires : tie.Need-marked-requires
+marked-requires c κs = search needs
+
+with-core-requires : tie.Need-with-core-requires
+with-core-requires c κs = search needs
+
+returns : tie.Need-returns
+unfolding markedOf
+returns c = rw (c .with-core .ensures, c .before .marked .ensures)
+
+pub marked-spec : {M : Type 1} → statement M
+marked-spec = tie.close (tie.spec marked-requires with-core-requires returns)

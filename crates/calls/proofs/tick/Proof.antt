@@ -1,0 +1,72 @@
+-- `calls::tick` meets its contract: each return is reached by the tests that the definition makes, in the same order.
+-- Written by tools/prove.py; no answer was changed by hand. Assumes nothing.
+use Rattle.calls.specs.Calls.{tickOf}
+use borrow.Author.Tests.{eq-eqb, ne-eqb}
+use borrow.Author.Needs.{needs}
+use Rattle.calls.proofs.tick.Statement.{statement}
+use Rattle.calls.proofs.tick.Tie as tie
+
+is-spoiled-requires : tie.Need-is-spoiled-requires
+is-spoiled-requires c κs = search needs
+
+refused-tick-requires : tie.Need-refused-tick-requires
+refused-tick-requires c κs = search needs
+
+returns : tie.Need-returns
+unfolding tickOf
+returns c = rw (c .refused-tick .ensures, ← c .before .before .is-spoiled .ensures, c .before .if1 .taken)
+
+refused-tick-requires-2 : tie.Need-refused-tick-requires-2
+refused-tick-requires-2 c κs = search needs
+
+returns-2 : tie.Need-returns-2
+unfolding tickOf
+returns-2 c =
+    rw (
+      c .refused-tick2 .ensures,
+      ne-eqb _ _ (c .before .if2 .taken),
+      ← c .before .before .before .is-spoiled .ensures,
+      c .before .before .if1 .left,
+    )
+
+refused-tick-requires-3 : tie.Need-refused-tick-requires-3
+refused-tick-requires-3 c κs = search needs
+
+returns-3 : tie.Need-returns-3
+unfolding tickOf
+returns-3 c =
+    rw (
+      c .refused-tick3 .ensures,
+      c .before .if3 .taken,
+      eq-eqb _ _ (c .before .before .before .before .before .if2 .left),
+      ← c .before .before .before .before .before .before .before .is-spoiled .ensures,
+      c .before .before .before .before .before .before .if1 .left,
+    )
+
+ticked-requires : tie.Need-ticked-requires
+ticked-requires c κs = search needs
+
+returns-4 : tie.Need-returns-4
+unfolding tickOf
+returns-4 c =
+    rw (
+      c .before .before .ticked .ensures,
+      c .before .before .before .if3 .left,
+      eq-eqb _ _ (c .before .before .before .before .before .before .before .if2 .left),
+      ← c .before .before .before .before .before .before .before .before .before .is-spoiled .ensures,
+      c .before .before .before .before .before .before .before .before .if1 .left,
+    )
+
+pub tick-spec : {M : Type 1} → statement M
+tick-spec =
+    tie.close
+    (tie.spec
+    is-spoiled-requires
+    refused-tick-requires
+    returns
+    refused-tick-requires-2
+    returns-2
+    refused-tick-requires-3
+    returns-3
+    ticked-requires
+    returns-4)

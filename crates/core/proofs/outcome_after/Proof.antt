@@ -1,0 +1,14 @@
+-- `core::outcome_after` meets its contract: one return for each choice.
+-- Written by tools/prove.py; no answer was changed by hand. Assumes nothing.
+use borrow.Author.Needs.{needs}
+use Rattle.core.proofs.outcome_after.Statement.{statement}
+use Rattle.core.proofs.outcome_after.Tie as tie
+
+returns : tie.Need-returns
+returns c = rw (c .if1 .taken)
+
+returns-2 : tie.Need-returns-2
+returns-2 c = search needs
+
+pub outcome-after-spec : {M : Type 1} → statement M
+outcome-after-spec = tie.close (tie.spec returns returns-2)

@@ -1,0 +1,14 @@
+-- `core::signals_of` meets its contract: the literal is the definition, field by field.
+-- Written by tools/prove.py; no answer was changed by hand. Assumes nothing.
+use borrow.Author.Needs.{needs}
+use Rattle.core.proofs.signals_of.Statement.{statement}
+use Rattle.core.proofs.signals_of.Tie as tie
+
+is-event-requires : tie.Need-is-event-requires
+is-event-requires c κs = search needs
+
+returns : tie.Need-returns
+returns c = rw (c .before .before .is-event .ensures)
+
+pub signals-of-spec : {M : Type 1} → statement M
+signals-of-spec = tie.close (tie.spec is-event-requires returns)

@@ -1,0 +1,38 @@
+-- `core::sync_after` meets its contract: one return for each choice.
+-- Written by tools/prove.py; no answer was changed by hand. Assumes nothing.
+use Rattle.core.specs.Core.{syncAfterOf}
+use borrow.Author.Needs.{needs}
+use Rattle.core.proofs.sync_after.Statement.{statement}
+use Rattle.core.proofs.sync_after.Tie as tie
+
+zeroed-requires : tie.Need-zeroed-requires
+zeroed-requires c κs = search needs
+
+returns : tie.Need-returns
+unfolding syncAfterOf
+returns c = rw (c .zeroed .ensures, c .before .if1 .taken)
+
+is-event-requires : tie.Need-is-event-requires
+is-event-requires c κs = search needs
+
+after-load-requires : tie.Need-after-load-requires
+after-load-requires c κs = search needs
+
+returns-2 : tie.Need-returns-2
+unfolding syncAfterOf
+returns-2 c =
+    rw (
+      c .after-load .ensures,
+      ← c .before .before .is-event .ensures,
+      c .before .if2 .taken,
+      c .before .before .before .if1 .left,
+    )
+
+returns-3 : tie.Need-returns-3
+unfolding syncAfterOf
+returns-3 c = rw (← c .before .is-event .ensures, c .if2 .left, c .before .before .if1 .left)
+
+pub sync-after-spec : {M : Type 1} → statement M
+sync-after-spec =
+    tie.close
+    (tie.spec zeroed-requires returns is-event-requires after-load-requires returns-2 returns-3)

@@ -1,0 +1,19 @@
+-- `supervisor::Supervisor::reset` meets its contract: both parts reset.
+-- Written by tools/prove.py; no answer was changed by hand. Assumes nothing.
+use Rattle.supervisor.specs.Supervisor.{resetOf}
+use borrow.Author.Needs.{needs}
+use Rattle.supervisor.proofs.Supervisor.reset.Statement.{statement}
+use Rattle.supervisor.proofs.Supervisor.reset.Tie as tie
+
+emptied-requires : tie.Need-emptied-requires
+emptied-requires c κs = search needs
+
+reset-requires : tie.Need-reset-requires
+reset-requires c κs = search needs
+
+returns : tie.Need-returns
+unfolding resetOf
+returns c = rw (c .reset .ensures, c .before .emptied .ensures)
+
+pub reset-spec : {M : Type 1} → statement M
+reset-spec = tie.close (tie.spec emptied-requires reset-requires returns)

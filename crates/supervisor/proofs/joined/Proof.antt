@@ -1,0 +1,16 @@
+-- `supervisor::joined` meets its contract: the literal is the definition; lines out are those of the next core.
+-- Written by tools/prove.py; no answer was changed by hand. Assumes nothing.
+use Rattle.supervisor.specs.Supervisor.{joinedOf}
+use borrow.Author.Needs.{needs}
+use Rattle.supervisor.proofs.joined.Statement.{statement}
+use Rattle.supervisor.proofs.joined.Tie as tie
+
+lines-out-requires : tie.Need-lines-out-requires
+lines-out-requires c κs = search needs
+
+returns : tie.Need-returns
+unfolding joinedOf
+returns c = rw (c .lines-out .ensures)
+
+pub joined-spec : {M : Type 1} → statement M
+joined-spec = tie.close (tie.spec lines-out-requires returns)
