@@ -30,7 +30,7 @@ use Rattle.core.specs.Lines.{hasStrobe}
 use Rattle.core.specs.declared.lines.Inputs.{Inputs}
 use Rattle.supervisor.specs.declared.Answer.{Answer}
 use Rattle.calls.specs.Answers.{Reply, declined, done, value, ticked}
-use Rattle.account.specs.Runs.{Ask, writeRegister, readRegister, writeMemory, readMemory, tick, Entry}
+use Rattle.calls.specs.Runs.{Ask, writeRegister, readRegister, writeMemory, readMemory, tick, Entry}
 use Rattle.account.specs.AccountFields.{Sums, Events, Account, withControl, withFactor, withN, withP, put}
 
 -- ---- the start

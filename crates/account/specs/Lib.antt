@@ -1,5 +1,4 @@
 -- The definitions, in the order of reading. Nothing is decided here. Assumes nothing.
-pub mod Runs
 pub mod AccountFields
 pub mod Account
 pub mod Demand3

@@ -2,3 +2,4 @@
 pub mod Answers
 pub mod Registers
 pub mod Calls
+pub mod Runs

@@ -2,17 +2,19 @@
 --     document 01    "The account of demand 3"
 --     Ask            what is asked of the supervisor: all that a bystander sees of a call
 --     Call           an ask with the memory that is lent to it
---     callOf         the reply to a call, and the record after it
+--     askOf, callOf  the reply to a call, and the record after it; memoryAfter: the memory after it
 --     recordAfter    the record after a list of calls
 --     logOf          what a bystander logs of it: asks and replies, no record and no memory
 -- Own rules of 01 used here: none. Decisions: none. Left out: nothing.
 -- Assumes nothing.
 use Prim.Native.Nat.{ℕ}
 use mathlib.Core.List.{List, [], _∷_}
+use lib.ListN.{replicate}
 use Rattle.core.specs.declared.lines.Inputs.{Inputs}
 use Rattle.supervisor.specs.declared.Supervisor.{Supervisor}
 use Rattle.calls.specs.Answers.{Reply, verdictReply, readingReply, tickReply}
-use Rattle.calls.specs.Calls.{writeRegisterOf, readRegisterOf, writeMemoryOf, readMemoryOf, tickOf}
+use Rattle.calls.specs.Calls.{memoryPlaces, memoryAfterOf, writeRegisterOf, readRegisterOf, writeMemoryOf}
+use Rattle.calls.specs.Calls.{readMemoryOf, tickOf}
 
 -- ---- calls
 
@@ -48,6 +50,18 @@ askOf (tick x) memory s =
 
 abbrev pub callOf : Call → Supervisor → Result
 callOf c s = askOf (c .ask) (c .memory) s
+
+-- [Declines.1b] a memory write that is carried out stores its word; no other ask touches the memory
+abbrev pub memoryAfter : Ask → List ℕ → Supervisor → List ℕ
+memoryAfter (writeRegister number v) memory s = memory
+memoryAfter (readRegister number) memory s = memory
+memoryAfter (writeMemory place word) memory s = memoryAfterOf memory place word s
+memoryAfter (readMemory place) memory s = memory
+memoryAfter (tick x) memory s = memory
+
+-- [Console.1] the memory that a console starts with
+abbrev pub zeroMemory : List ℕ
+zeroMemory = replicate memoryPlaces 0
 
 -- ---- the whole list
 
