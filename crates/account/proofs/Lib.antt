@@ -1,1 +1,5 @@
--- The laws. Assumes nothing.
+-- The laws, in the order of reading. Assumes nothing.
+pub mod Invariant
+pub mod WriteLaw
+pub mod TickLaw
+pub mod Theorem

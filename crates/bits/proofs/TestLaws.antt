@@ -4,11 +4,12 @@
 --     implied, implies      "not p, or q" is: if p then q
 --     every-at, at-every    a test at each index below n is the tests at all of them
 --     all-true-at           a list of tests that all hold has each of them, by its place
+--     by-cond               what holds of both results of a choice holds of the choice; each side knows its test
 --     or-true, or-rest      a second test that holds makes the choice hold; a first that fails leaves the second
 -- Assumes nothing.
 use Prim.Native.Nat.{ℕ, zero, suc, _<_}
 use mathlib.Core.Path.{_≡_, refl}
-use mathlib.Core.Bool.{Bool, true, false, not, _&&_, _||_, true≢false, false≢true}
+use mathlib.Core.Bool.{Bool, true, false, not, _&&_, _||_, cond, true≢false, false≢true}
 use mathlib.Core.List.{List, [], _∷_}
 use native.Mathlib.Omega.{arith}
 use lib.ListN.{length, getD}
@@ -60,3 +61,8 @@ or-true false q h = h
 pub or-rest : (p q : Bool) → (p || q) ≡ true → p ≡ false → q ≡ true
 or-rest true q h k = absurd (true≢false k)
 or-rest false q h k = h
+
+-- a chain of declines is walked by it
+pub by-cond : {A : Type 0} (P : A → Type 0) (t : Bool) {a b : A} → (t ≡ true → P a) → (t ≡ false → P b) → P (cond t a b)
+by-cond P true f g = f refl
+by-cond P false f g = g refl

@@ -1,2 +1,3 @@
 -- The laws, in the order of reading; the proofs of functions stand in folders of their own. Assumes nothing.
 pub mod ReadoutChoices
+pub mod ReadoutLaws

@@ -4,19 +4,24 @@
 --     csr-value-has-no-declined-bit      a CSR value taken has none of bits 12, 13, 28, 29, 30
 --     assign-declines-40-to-4F, assign-declines-60-up     the codes that 01 does not list
 --     over-19-is-absent                  a number over 19 names no register
+--     numbered-is-in-range               a number names factor 1–8, timer 1–5, scaler 0 or 1, or another one
 -- Assumes nothing.
 use Prim.Native.Nat.{ℕ, _<_, _≤_}
 use mathlib.Core.Path.{_≡_, refl, sym}
 use mathlib.Core.Logic.{_↔_}
 use mathlib.Core.Bool.{Bool, true, false, not, _||_}
 use native.Mathlib.Omega.{arith}
-use borrow.Author.Tests.{lt-leb, le-ltb, ne-eqb, le-leb, not-true}
+use lib.Dec.{eqb, ltb}
+use borrow.Author.Tests.{lt-leb, le-ltb, ne-eqb, le-leb, not-true, ltb-true, ltb-false, eqb-false}
 use Rattle.bits.specs.Bits.{bitAt, NoBitOutside, NoBitOutsideOf}
+use Rattle.bits.proofs.TestLaws.{by-cond}
 use Rattle.bits.proofs.WidthLaws.{fits-iff-no-bit-outside, only-iff-no-bit-outside}
 use Rattle.registers.specs.Registers.{numberedOf, factorWidth, timerWidth, intervalWidth, controlBits}
 use Rattle.registers.specs.Registers.{isValidCsrValue, isValidControl, isValidFactor}
 use Rattle.registers.specs.Registers.{isValidInterval, isValidTimer, isValidAssign}
-use Rattle.registers.specs.declared.register.Register.the-variants.{Absent}
+use Rattle.registers.specs.declared.register.Register.{Register}
+use Rattle.registers.specs.declared.register.Register.the-variants.{Csr, Control, Factor, RocEnable}
+use Rattle.registers.specs.declared.register.Register.the-variants.{Interval, Timer, Scaler, Assign, Absent}
 
 -- ---- no bit outside the register
 
@@ -83,3 +88,46 @@ over-19-is-absent n h =
       le-ltb n 19 (omega arith),
       ne-eqb n 19 (λ e. omega arith),
     )
+
+pub record Between (low high n : ℕ) : Type 0 where
+  pub least : low ≤ n
+  pub most : n ≤ high
+
+-- [Registers.1] the factors, timers and scalers that there are
+abbrev pub InRange : Register → Type 0
+InRange Csr = Unit {0}
+InRange Control = Unit {0}
+InRange (Factor input) = Between 1 8 input
+InRange RocEnable = Unit {0}
+InRange Interval = Unit {0}
+InRange (Timer n) = Between 1 5 n
+InRange (Scaler n) = Between 0 1 n
+InRange Assign = Unit {0}
+InRange Absent = Unit {0}
+
+pub numbered-is-in-range : (n : ℕ) → InRange (numberedOf n)
+unfolding numberedOf
+numbered-is-in-range n =
+    by-cond InRange (eqb n 0) (λ e. tt) (λ not0.
+    by-cond InRange (eqb n 1) (λ e. tt) (λ not1.
+    by-cond InRange (ltb n 10)
+    (λ e.
+    let above0 : (n ≡ 0 → ⊥) = eqb-false n 0 not0 in
+    let above1 : (n ≡ 1 → ⊥) = eqb-false n 1 not1 in
+    let below : n < 10 = ltb-true n 10 e in
+    record { least = omega arith; most = omega arith }) (λ from10.
+    by-cond InRange (eqb n 10) (λ e. tt) (λ not10.
+    by-cond InRange (eqb n 11) (λ e. tt) (λ not11.
+    by-cond InRange (ltb n 17)
+    (λ e.
+    let above : 10 ≤ n = ltb-false n 10 from10 in
+    let above10 : (n ≡ 10 → ⊥) = eqb-false n 10 not10 in
+    let above11 : (n ≡ 11 → ⊥) = eqb-false n 11 not11 in
+    let below : n < 17 = ltb-true n 17 e in
+    record { least = omega arith; most = omega arith }) (λ from17.
+    by-cond InRange (ltb n 19)
+    (λ e.
+    let above : 17 ≤ n = ltb-false n 17 from17 in
+    let below : n < 19 = ltb-true n 19 e in
+    record { least = omega arith; most = omega arith }) (λ from19.
+    by-cond InRange (eqb n 19) (λ e. tt) (λ e. tt))))))))

@@ -5,6 +5,7 @@
 --     to-idle-zeroes             a move to Idle leaves nothing of the event
 --     idle-stays, idle-does-not-age, aged-keeps-state   at Idle nothing moves; ageing leaves the state
 --     fail-beats-pass2, fail-beats-pass3, pass3-keeps-accept2, word-is-six-bit   single rules
+--     step-loads-six-bits        the word that a step loads has six bits
 -- Assumes nothing.
 use Prim.Native.Nat.{ℕ, _+_, _*_, _/_, _%_, _^_, _<_, _≤_}
 use mathlib.Core.Path.{_≡_, refl, sym, ap, _∙_}
@@ -12,19 +13,23 @@ use mathlib.Core.Bool.{Bool, true, false, not, _&&_, _||_, false≢true, true≢
 use mathlib.Core.List.{List, [], _∷_}
 use native.Mathlib.Omega.{arith}
 use native.Mathlib.Nat.{mod-lt}
-use lib.Dec.{eqb, ltb, lit<, lit≤}
+use lib.Dec.{eqb, ltb, leb, lit<, lit≤}
 use lib.ListN.{getD}
-use borrow.Author.Tests.{ltb-true, not-true}
+use borrow.Author.Tests.{ltb-true, not-true, le-leb}
 use Rattle.bits.specs.Notation.{if_then_else_, _▷_}
 use Rattle.bits.specs.Bits.{bitAt, oneIfOf, allTrue}
-use Rattle.bits.proofs.TestLaws.{and-right, implied, all-true-at, or-true, or-rest}
+use Rattle.bits.specs.Bytes.{allOf}
+use Rattle.bits.proofs.TestLaws.{and-right, and-both, implied, all-true-at, or-true, or-rest}
 use Rattle.bits.proofs.BitsLaws.{set-at}
 use Rattle.sequencer.specs.MemoryWord.{classInOf, codeIn, acceptIn, isOkWord}
 use Rattle.sequencer.specs.MainFields.{quiet, withAge, withState, withClass, withCode, withAccept}
 use Rattle.sequencer.specs.States.{isIdle, isUndecided, isLoaded, isWait2, isCleared, isEvent, isTag}
+use Rattle.sequencer.specs.States.{outcomeWords}
 use Rattle.sequencer.specs.MainSequencer.{ageLimit, codeLimit, okLine, start2Line, raise}
 use Rattle.sequencer.specs.MainSequencer.{accept2Line, accept3Line, isRaised, idleOf, agedOf, acceptedOf}
-use Rattle.sequencer.specs.MainSequencer.{Move, waitsInDelay, endsDelay, passes2ToDelay, passes2ToWait3, passes3}
+use Rattle.sequencer.specs.MainSequencer.{Level, level2, level3, Move, stays, waitsInDelay, endsDelay}
+use Rattle.sequencer.specs.MainSequencer.{passes2ToDelay, passes2ToWait3, passes3, failsLate, failsAndClears}
+use Rattle.sequencer.specs.MainSequencer.{loads, leavesSpace, endsSyncHold, countsClear, endsClear}
 use Rattle.sequencer.specs.MainSequencer.{moveInWait2, moveInWait3, moveIn, wordOf, afterLoad, stepBy, stepOf}
 use Rattle.sequencer.specs.MainSequencer.{WellFormedMain}
 use Rattle.sequencer.specs.declared.main_sequencer.State.{State}
@@ -220,3 +225,28 @@ word-is-six-bit sync m = go sync (m .late)
     go true false = omega arith
     go false true = omega arith
     go false false = omega arith
+
+-- by clauses on the move: one of them loads
+loads-six-bits : (v : Move) (t : Tests) (m : MainSequencer)
+    → allOf (λ w. leb w 63) (outcomeWords (stepBy v t m .outcome)) ≡ true
+loads-six-bits stays t m = refl
+loads-six-bits waitsInDelay t m = refl
+loads-six-bits endsDelay t m = refl
+loads-six-bits passes2ToDelay t m = refl
+loads-six-bits passes2ToWait3 t m = refl
+loads-six-bits passes3 t m = refl
+loads-six-bits (failsLate level2) t m = refl
+loads-six-bits (failsLate level3) t m = refl
+loads-six-bits (failsAndClears level2) t m = refl
+loads-six-bits (failsAndClears level3) t m = refl
+loads-six-bits loads t m = and-both _ true (le-leb (wordOf (t .sync) m) 63 (word-is-six-bit (t .sync) m)) refl
+loads-six-bits leavesSpace t m = refl
+loads-six-bits endsSyncHold t m = refl
+loads-six-bits countsClear t m = refl
+loads-six-bits endsClear t m = refl
+
+-- [Main.9]
+pub step-loads-six-bits : (t : Tests) (m : MainSequencer)
+    → allOf (λ w. leb w 63) (outcomeWords (stepOf t m .outcome)) ≡ true
+unfolding stepOf
+step-loads-six-bits t m = loads-six-bits (moveIn (m .state) t m) t m

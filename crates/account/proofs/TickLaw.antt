@@ -1,0 +1,186 @@
+-- A tick that is carried out keeps the invariant, part by part: the masks, the prescalers, the events, the branches.
+--     ticked-keeps-invariant   on a record that is not spoiled
+-- Assumes nothing.
+use Prim.Native.Nat.{ℕ, _+_, _<_}
+use mathlib.Core.Path.{_≡_, refl, sym, ap, _∙_}
+use mathlib.Core.Bool.{Bool, true, false, _&&_}
+use mathlib.Core.List.{List, _++_, append-assoc}
+use native.Mathlib.Omega.{arith}
+use lib.ListN.{length, getD}
+use borrow.Author.Tests.{not-false}
+use Rattle.bits.specs.Bits.{oneIfOf}
+use Rattle.bits.proofs.TestLaws.{and-left, and-right}
+use Rattle.registers.specs.Csr as csr
+use Rattle.registers.specs.Control.{inputs}
+use Rattle.branch.specs.Branch.{held, isSixBitLoad}
+use Rattle.branch.specs.Slots.{wordsIn, isWordOf}
+use Rattle.branch.proofs.BranchLaws.{held-at-most-eight}
+use Rattle.branches.specs.ReadoutFields.{branchAt}
+use Rattle.branches.specs.Readout as readout
+use Rattle.branches.specs.Readout.{noSide}
+use Rattle.branches.proofs.ReadoutLaws as branches
+use Rattle.sequencer.specs.States.{isUndecided, outcomeWords}
+use Rattle.sequencer.specs.declared.main_sequencer.Outcome.{Outcome}
+use Rattle.sequencer.specs.declared.main_sequencer.Outcome.the-variants.{Nothing, Cleared, Event, Tag}
+use Rattle.scalers.specs.Scalers.{isSome}
+use Rattle.core.specs.Core as core
+use Rattle.core.specs.declared.lines.Inputs.{Inputs}
+use Rattle.core.specs.declared.CoreStep.{CoreStep}
+use Rattle.core.proofs.CoreEvents.{EventStep, event-step-balances, undecided-follows}
+use Rattle.core.proofs.CoreParts.{isLoad}
+use Rattle.core.proofs.CoreLaws as laws
+use Rattle.supervisor.specs.Supervisor.{loadOf, coreStepOf, readoutStepOf, joinedOf, tickedOf, isSpoiledOf}
+use Rattle.supervisor.specs.declared.Supervisor.{Supervisor}
+use Rattle.supervisor.specs.declared.Answer.{Answer}
+use Rattle.account.specs.AccountFields.{Events, Account}
+use Rattle.account.specs.Account.{countsIn, add, sumsAfter, undecidedAfter, eventsAfter, isUnstopped, isThrough}
+use Rattle.account.specs.Account.{afterTick}
+use Rattle.account.proofs.Invariant.{Prescaling, Ordering, AddsUp, Invariant}
+
+-- ---- an outcome and what it loads
+
+load-words : (o : Outcome) → wordsIn (loadOf o) ≡ outcomeWords o
+load-words Nothing = refl
+load-words Cleared = refl
+load-words (Event w) = refl
+load-words (Tag w) = refl
+
+word-is-load : (o : Outcome) → isWordOf (loadOf o) ≡ true → isLoad o ≡ true
+word-is-load Nothing h = h
+word-is-load Cleared h = h
+word-is-load (Event w) h = refl
+word-is-load (Tag w) h = refl
+
+-- ---- a record that is not spoiled
+
+module _ (s : Supervisor) (clean : isSpoiledOf s ≡ false) where
+  abbrev wellFormed : Bool
+  wellFormed = readout.isWellFormedOf (core.allowsEightOf (s .core)) (s .readout)
+
+  abbrev sound : Bool
+  sound = core.isSoundOf (s .core)
+
+  unspoiled : (wellFormed && sound) ≡ true
+  unfolding isSpoiledOf
+  unspoiled = not-false (wellFormed && sound) clean
+
+  unspoiled-is-well-formed : wellFormed ≡ true
+  unspoiled-is-well-formed = and-left wellFormed sound unspoiled
+
+  unspoiled-is-sound : sound ≡ true
+  unspoiled-is-sound = and-right wellFormed sound unspoiled
+
+-- ---- the tick, part by part
+
+module _ (memory : List ℕ) (x : Inputs) (s : Supervisor) where
+  -- what the core sees of the branches
+  abbrev room : Bool
+  room = readout.hasRoomOf (csr.locksRoc (s .core .csr)) (csr.locksBranch4 (s .core .csr)) (s .readout)
+
+  abbrev empty : Bool
+  empty = readout.isEmptyOf (s .readout)
+
+  abbrev step : CoreStep
+  step = core.stepOf room empty x memory (s .core)
+
+  abbrev answer : Answer
+  answer = tickedOf memory x s .answer
+
+  -- [Account.10] [Account.11] with the control that the account keeps
+  tick-adds-up : (a : Account) → a .control ≡ s .core .control .word → (i : ℕ) → i < inputs → AddsUp (a .sums) i
+      → AddsUp (sumsAfter (countsIn a x) answer (a .sums)) i
+  unfolding tickedOf joinedOf coreStepOf readoutStepOf
+  tick-adds-up a control i h sums =
+      let one = laws.counted-is-in-one-mask room empty x memory (s .core) i h in
+      rw control (omega arith)
+
+  -- [Account.12] [Account.17]
+  tick-keeps-prescaling : (a : Account) → a .control ≡ s .core .control .word
+      → Prescaling (s .core .prescalers) (a .factor) (a .n) (a .p)
+      → Prescaling (step .next .prescalers) (a .factor) (add (a .n) (isUnstopped (countsIn a x) answer))
+      (add (a .p) (isThrough (countsIn a x) answer))
+  unfolding tickedOf joinedOf coreStepOf readoutStepOf
+  tick-keeps-prescaling a control v =
+      record {
+        eight = laws.step-keeps-lengths room empty x memory (s .core) (v .eight);
+        factors = λ i.
+            v .factors i
+            ∙ sym (ap (λ (f : List ℕ). getD f i 0) (laws.step-keeps-factors room empty x memory (s .core)));
+        count = λ i h.
+            rw control
+            (laws.step-keeps-pass-count room empty x memory (s .core) i (a .n i) (a .p i) h (v .eight) (v .count i h));
+      }
+
+  -- [Account.13] [Account.14] [Account.18]
+  event-step : EventStep (s .core .main .state) (step .next .main .state) (isSome (step .masks .accepted))
+      (step .outcome)
+  event-step = laws.step-is-event-step room empty x memory (s .core)
+
+  tick-decides : (e : Events) → e .undecided ≡ isUndecided (s .core .main .state)
+      → eventsAfter answer e .undecided ≡ isUndecided (step .next .main .state)
+  unfolding tickedOf joinedOf coreStepOf readoutStepOf
+  tick-decides e decides =
+      ap (undecidedAfter (isSome (step .masks .accepted)) (step .outcome)) decides ∙ undecided-follows event-step
+
+  tick-balances-events : (e : Events) → e .undecided ≡ isUndecided (s .core .main .state)
+      → e .accepted ≡ e .cleared + e .loaded + oneIfOf (e .undecided)
+      → eventsAfter answer e .accepted
+      ≡ eventsAfter answer e .cleared + eventsAfter answer e .loaded + oneIfOf (eventsAfter answer e .undecided)
+  unfolding tickedOf joinedOf coreStepOf readoutStepOf
+  tick-balances-events e decides events =
+      let balance = event-step-balances event-step in
+      let state = s .core .main .state in
+      let before : e .accepted ≡ e .cleared + e .loaded + oneIfOf (isUndecided state) = rw (← decides) events in
+      rw (tick-decides e decides) (omega arith)
+
+  -- ---- the branches: a word is loaded where no queue may hold eight
+
+  module _ (clean : isSpoiledOf s ≡ false) where
+    load-is-six-bit : isSixBitLoad (loadOf (step .outcome)) ≡ true
+    load-is-six-bit = rw (load-words (step .outcome)) (laws.step-loads-six-bits room empty x memory (s .core))
+
+    load-has-room : isWordOf (loadOf (step .outcome)) ≡ true → core.allowsEightOf (s .core) ≡ false
+    load-has-room h =
+        laws.step-loads-below-eight room empty x memory (s .core) (unspoiled-is-sound s clean)
+        (word-is-load (step .outcome) h)
+
+    -- [Account.15] [Account.16]
+    tick-keeps-ordering : (k : ℕ) → k < length (s .readout .branches) → (finished words : List ℕ)
+        → Ordering (branchAt (s .readout .branches) k) finished words
+        → Ordering (branchAt (tickedOf memory x s .next .readout .branches) k)
+        (finished ++ wordsIn (getD (answer .sides) k noSide .finished)) (words ++ outcomeWords (answer .outcome))
+    unfolding tickedOf joinedOf coreStepOf readoutStepOf
+    tick-keeps-ordering k h finished words v =
+        let r = s .readout in
+        let load = loadOf (step .outcome) in
+        let eight = core.allowsEightOf (s .core) in
+        let fine = unspoiled-is-well-formed s clean in
+        let after = branchAt (readout.stepOf (x .acks) load r .next .branches) k in
+        let done = wordsIn (getD (readout.stepOf (x .acks) load r .sides) k noSide .finished) in
+        let step-order = branches.step-keeps-order (x .acks) load r k h eight fine load-is-six-bit load-has-room in
+        record {
+          order =
+              append-assoc finished done (held after)
+              ∙ ap (λ (l : List ℕ). finished ++ l) step-order
+              ∙ sym (append-assoc finished (held (branchAt (r .branches) k)) (wordsIn load))
+              ∙ rw (v .order, load-words (step .outcome));
+          eight =
+              held-at-most-eight after
+              (branches.step-keeps-well-formed (x .acks) load r k h eight fine load-is-six-bit);
+        }
+
+    -- ---- all of it
+
+    pub ticked-keeps-invariant : {branches : ℕ} (a : Account) → Invariant branches s a
+        → Invariant branches (tickedOf memory x s .next) (afterTick x answer a)
+    unfolding tickedOf joinedOf coreStepOf readoutStepOf afterTick
+    ticked-keeps-invariant a v =
+        record {
+          control = v .control ∙ ap (λ c. c .word) (sym (laws.step-keeps-control room empty x memory (s .core)));
+          prescaling = tick-keeps-prescaling a (v .control) (v .prescaling);
+          pulses = λ i h. tick-adds-up a (v .control) i h (v .pulses i h);
+          events = tick-balances-events (a .events) (v .decides) (v .events);
+          decides = tick-decides (a .events) (v .decides);
+          number = branches.step-keeps-length (x .acks) (loadOf (step .outcome)) (s .readout) ∙ v .number;
+          ordering = λ k h. tick-keeps-ordering k (rw (v .number) h) (a .finished k) (a .words) (v .ordering k h);
+        }

@@ -1,0 +1,197 @@
+-- Laws of the parts of a tick of the core: the latch, the ready rule, main, the user sync. Each is over its part alone;
+-- CoreLaws puts them together.
+--     idle-is-named                            the test of Idle is the state
+--     latch-is-one, accepted-is-ready          what becomes of a passed pulse, and when one is accepted
+--     ready-is-idle, ready-wants-no-sync       what the ready rule gives
+--     accepted-is-undecided, idle-cycle-is-quiet, cycle-decides-event   main: the accept, Idle, a cycle
+--     main-has-no-tag, main-loads-below-eight, main-at-idle-loads-nothing, main-loads-six-bits
+--     tag-waits-not, tag-is-wanted, tag-is-at-idle   where the user sync loads a tag
+--     sound-waits-at-idle                      main is not in a cycle while a user sync waits
+--     tag-, event-loads-below-eight            a word is loaded only where no queue may hold eight
+-- Assumes nothing.
+use Prim.Native.Nat.{ℕ, _+_, _<_}
+use mathlib.Core.Path.{_≡_, refl, sym, ap, ap₂, _∙_}
+use mathlib.Core.Bool.{Bool, true, false, not, _&&_, _||_, true≢false, false≢true}
+use native.Mathlib.Omega.{arith}
+use lib.Dec.{eqb, leb, lit<}
+use borrow.Author.Tests.{not-true}
+use Rattle.bits.specs.Bits.{bitAt, oneIfOf}
+use Rattle.bits.specs.Bytes.{allOf}
+use Rattle.bits.proofs.TestLaws.{and-left, and-right, implied, all-true-at, by-cond}
+use Rattle.bits.proofs.BitsLaws.{zero-at}
+use Rattle.registers.specs.Csr as csr
+use Rattle.sync.proofs.SyncLaws.{user-tag-exactly}
+use Rattle.sequencer.specs.MemoryWord.{classInOf}
+use Rattle.sequencer.specs.MainFields.{quiet}
+use Rattle.sequencer.specs.States.{isIdle, isUndecided, isLoaded, outcomeWords, isCleared, isEvent, isTag}
+use Rattle.sequencer.specs.MainSequencer as main
+use Rattle.sequencer.specs.declared.main_sequencer.State.{State}
+use Rattle.sequencer.specs.declared.main_sequencer.State.the-variants.{Idle, Delay, Wait2, Wait3}
+use Rattle.sequencer.specs.declared.main_sequencer.State.the-variants.{Front, Space, SyncHold, Clear}
+use Rattle.sequencer.specs.declared.main_sequencer.Outcome.{Outcome}
+use Rattle.sequencer.specs.declared.main_sequencer.Outcome.the-variants.{Nothing, Cleared, Event, Tag}
+use Rattle.sequencer.specs.declared.main_sequencer.MainSequencer.{MainSequencer}
+use Rattle.sequencer.specs.declared.main_sequencer.MainStep.{MainStep}
+use Rattle.sequencer.proofs.MainLaws.{idle-stays, idle-does-not-age, aged-keeps-state, step-decides-event}
+use Rattle.sequencer.proofs.MainLaws.{step-loads-in-order}
+use Rattle.sequencer.proofs.MainLaws as sequencer
+use Rattle.scalers.specs.Scalers.{isSome}
+use Rattle.core.specs.Core.{isReadyOf, isOpenOf, latchOf}
+use Rattle.core.specs.Core.{testsOf, cycleStepOf, mainStepOf, userStepOf}
+use Rattle.core.specs.Core.{allowsEightOf, soundnessOf, isSoundOf}
+use Rattle.core.specs.declared.lines.Lines.{Lines}
+use Rattle.core.specs.declared.Core.{Core}
+use Rattle.core.specs.declared.Latch.{Latch}
+
+-- ---- the state Idle
+
+pub idle-is-named : (g : State) → isIdle g ≡ true → g ≡ Idle
+idle-is-named Idle h = refl
+idle-is-named Delay h = absurd (false≢true h)
+idle-is-named Wait2 h = absurd (false≢true h)
+idle-is-named Wait3 h = absurd (false≢true h)
+idle-is-named Front h = absurd (false≢true h)
+idle-is-named Space h = absurd (false≢true h)
+idle-is-named SyncHold h = absurd (false≢true h)
+idle-is-named Clear h = absurd (false≢true h)
+
+-- ---- the latch: what becomes of a passed pulse
+
+-- [Ready.2] [Ready.4] [Ready.5] [Account.11]
+pub latch-is-one : (ready ok : Bool) (passed i : ℕ)
+    → oneIfOf (bitAt passed i)
+    ≡ oneIfOf (bitAt (latchOf ready ok passed .lost) i)
+    + oneIfOf (bitAt (latchOf ready ok passed .rejected) i)
+    + oneIfOf (bitAt (latchOf ready ok passed .accepted) i)
+latch-is-one true true passed i = rw (zero-at i) (omega arith)
+latch-is-one true false passed i = rw (zero-at i) (omega arith)
+latch-is-one false ok passed i = rw (zero-at i) (omega arith)
+
+-- [Ready.5] a pulse is accepted only where the unit is ready and the word is OK
+pub accepted-is-ready : (ready ok : Bool) (passed : ℕ) → isSome (latchOf ready ok passed .accepted) ≡ true
+    → (ready && ok) ≡ true
+accepted-is-ready true true passed h = refl
+accepted-is-ready true false passed h = h
+accepted-is-ready false ok passed h = h
+
+-- ---- the ready rule
+
+module _ (l : Lines) (c : Core) (ready : isReadyOf l c ≡ true) where
+  -- [Ready.1]
+  pub ready-is-idle : isIdle (c .main .state) ≡ true
+  ready-is-idle = and-left (isIdle (c .main .state)) (isOpenOf l c) ready
+
+  -- [Ready.1]
+  pub ready-wants-no-sync : csr.wantsUserSync (c .csr) ≡ false
+  ready-wants-no-sync =
+      not-true (csr.wantsUserSync (c .csr))
+      (and-left (not (csr.wantsUserSync (c .csr))) _
+      (and-right (csr.isGo (c .csr)) _ (and-right (isIdle (c .main .state)) (isOpenOf l c) ready)))
+
+-- ---- main: in a cycle, at Idle, and where a pattern is accepted
+
+pub accepted-is-undecided : (word : ℕ) (m : MainSequencer) → isUndecided (main.acceptedOf word m .state) ≡ true
+unfolding main.acceptedOf
+accepted-is-undecided word m =
+    by-cond (λ (n : MainSequencer). isUndecided (n .state) ≡ true) (eqb (classInOf word) 1) (λ e. refl) (λ e. refl)
+
+module _ (room empty : Bool) (l : Lines) (c : Core) where
+  -- [Main.1] at Idle nothing moves
+  pub idle-cycle-is-quiet : isIdle (c .main .state) ≡ true → cycleStepOf room empty l c ≡ quiet (c .main)
+  idle-cycle-is-quiet h =
+      rw (idle-does-not-age (c .main) h)
+      (idle-stays (testsOf room empty (c .main .age) l c) (c .main) (idle-is-named (c .main .state) h))
+
+  pub cycle-decides-event : oneIfOf (isUndecided (c .main .state))
+      ≡ oneIfOf (isCleared (cycleStepOf room empty l c .outcome))
+      + oneIfOf (isEvent (cycleStepOf room empty l c .outcome))
+      + oneIfOf (isUndecided (cycleStepOf room empty l c .next .state))
+  cycle-decides-event =
+      let aged : MainSequencer = main.agedOf (c .main) in
+      ap (λ (g : State). oneIfOf (isUndecided g)) (sym (aged-keeps-state (c .main)))
+      ∙ step-decides-event (testsOf room empty (aged .age) l c) aged
+
+  module _ (latch : Latch) (word : ℕ) where
+    abbrev mainStep : MainStep
+    mainStep = mainStepOf room empty l latch word c
+
+    -- a pattern is accepted, with no outcome, or main goes on by itself
+    by-accept : (P : MainStep → Type 0) → P (quiet (main.acceptedOf word (c .main))) → P (cycleStepOf room empty l c)
+        → P mainStep
+    unfolding mainStepOf
+    by-accept P accepted cycle = by-cond P (isSome (latch .accepted)) (λ e. accepted) (λ e. cycle)
+
+    pub main-has-no-tag : isTag (mainStep .outcome) ≡ false
+    main-has-no-tag =
+        by-accept (λ (s : MainStep). isTag (s .outcome) ≡ false) refl (step-loads-in-order _ _ .noTag)
+
+    -- [Spoiled.1f]
+    pub main-loads-below-eight : isEvent (mainStep .outcome) ≡ true → isLoaded (c .main .state) ≡ false
+    main-loads-below-eight =
+        by-accept (λ (s : MainStep). isEvent (s .outcome) ≡ true → isLoaded (c .main .state) ≡ false)
+        (λ h. absurd (false≢true h))
+        (λ h. ap isLoaded (sym (aged-keeps-state (c .main))) ∙ step-loads-in-order _ _ .loadBefore h)
+
+    -- [Main.1]
+    pub main-at-idle-loads-nothing : isIdle (c .main .state) ≡ true → isEvent (mainStep .outcome) ≡ false
+    main-at-idle-loads-nothing idle =
+        by-accept (λ (s : MainStep). isEvent (s .outcome) ≡ false) refl
+        (ap (λ (s : MainStep). isEvent (s .outcome)) (idle-cycle-is-quiet idle))
+
+    -- [Main.9]
+    pub main-loads-six-bits : allOf (λ w. leb w 63) (outcomeWords (mainStep .outcome)) ≡ true
+    main-loads-six-bits =
+        by-accept (λ (s : MainStep). allOf (λ w. leb w 63) (outcomeWords (s .outcome)) ≡ true) refl
+        (sequencer.step-loads-six-bits _ _)
+
+-- ---- the user sync: where a tag is loaded
+
+module _ (empty : Bool) (c : Core) (tag : userStepOf empty c .tag ≡ true) where
+  tag-tests : (not (c .user .waiting) && (csr.wantsUserSync (c .csr) && isIdle (c .main .state))) ≡ true
+  tag-tests = sym (user-tag-exactly (csr.wantsUserSync (c .csr)) (isIdle (c .main .state)) empty (c .user)) ∙ tag
+
+  -- [Usersync.1]
+  pub tag-waits-not : c .user .waiting ≡ false
+  tag-waits-not = not-true (c .user .waiting) (and-left (not (c .user .waiting)) _ tag-tests)
+
+  pub tag-is-wanted : csr.wantsUserSync (c .csr) ≡ true
+  tag-is-wanted = and-left (csr.wantsUserSync (c .csr)) _ (and-right (not (c .user .waiting)) _ tag-tests)
+
+  pub tag-is-at-idle : isIdle (c .main .state) ≡ true
+  tag-is-at-idle = and-right (csr.wantsUserSync (c .csr)) _ (and-right (not (c .user .waiting)) _ tag-tests)
+
+-- [Spoiled.1k] main is not in a cycle while a user sync waits
+pub sound-waits-at-idle : (c : Core) → isSoundOf c ≡ true → c .user .waiting ≡ true → isIdle (c .main .state) ≡ true
+unfolding isSoundOf
+sound-waits-at-idle c sound =
+    implied (c .user .waiting) (isIdle (c .main .state)) (all-true-at (soundnessOf c) sound 7 (lit< tt))
+
+-- ---- where a word is loaded
+
+-- an event or a tag
+abbrev pub isLoad : Outcome → Bool
+isLoad o = isEvent o || isTag o
+
+event-of-load : (o : Outcome) → isLoad o ≡ true → isTag o ≡ false → isEvent o ≡ true
+event-of-load Nothing h t = h
+event-of-load Cleared h t = h
+event-of-load (Event w) h t = refl
+event-of-load (Tag w) h t = absurd (true≢false t)
+
+pub tag-loads-below-eight : (empty : Bool) (c : Core) → userStepOf empty c .tag ≡ true → allowsEightOf c ≡ false
+tag-loads-below-eight empty c tag =
+    ap₂ _||_ (ap isLoaded (idle-is-named (c .main .state) (tag-is-at-idle empty c tag))) (tag-waits-not empty c tag)
+
+pub event-loads-below-eight : (room empty : Bool) (l : Lines) (c : Core) (latch : Latch) (word : ℕ) → isSoundOf c ≡ true
+    → isLoad (mainStepOf room empty l latch word c .outcome) ≡ true → allowsEightOf c ≡ false
+event-loads-below-eight room empty l c latch word sound h =
+    ap₂ _||_ (main-loads-below-eight room empty l c latch word event) (go (c .user .waiting) refl)
+  where
+    event : isEvent (mainStepOf room empty l latch word c .outcome) ≡ true
+    event = event-of-load (mainStepOf room empty l latch word c .outcome) h (main-has-no-tag room empty l c latch word)
+
+    go : (waiting : Bool) → c .user .waiting ≡ waiting → waiting ≡ false
+    go true e =
+        let idle = sound-waits-at-idle c sound e in
+        sym event ∙ main-at-idle-loads-nothing room empty l c latch word idle
+    go false e = refl
