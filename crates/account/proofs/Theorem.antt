@@ -118,6 +118,7 @@ pub invariant-implies-balanced : {branches : ℕ} (s : Supervisor) (a : Account)
 invariant-implies-balanced s a v =
     let b = s .core .prescalers in
     record {
+      number = v .number;
       order = λ k h. v .ordering k h .order;
       eight = λ k h. v .ordering k h .eight;
       pulses = v .pulses;

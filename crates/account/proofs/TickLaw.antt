@@ -2,14 +2,12 @@
 --     ticked-keeps-invariant   on a record that is not spoiled
 -- Assumes nothing.
 use Prim.Native.Nat.{ℕ, _+_, _<_}
-use mathlib.Core.Path.{_≡_, refl, sym, ap, _∙_}
-use mathlib.Core.Bool.{Bool, true, false, _&&_}
+use mathlib.Core.Path.{_≡_, sym, ap, _∙_}
+use mathlib.Core.Bool.{Bool, true, false}
 use mathlib.Core.List.{List, _++_, append-assoc}
 use native.Mathlib.Omega.{arith}
 use lib.ListN.{length, getD}
-use borrow.Author.Tests.{not-false}
 use Rattle.bits.specs.Bits.{oneIfOf}
-use Rattle.bits.proofs.TestLaws.{and-left, and-right}
 use Rattle.registers.specs.Csr as csr
 use Rattle.registers.specs.Control.{inputs}
 use Rattle.branch.specs.Branch.{held, isSixBitLoad}
@@ -20,55 +18,21 @@ use Rattle.branches.specs.Readout as readout
 use Rattle.branches.specs.Readout.{noSide}
 use Rattle.branches.proofs.ReadoutLaws as branches
 use Rattle.sequencer.specs.States.{isUndecided, outcomeWords}
-use Rattle.sequencer.specs.declared.main_sequencer.Outcome.{Outcome}
-use Rattle.sequencer.specs.declared.main_sequencer.Outcome.the-variants.{Nothing, Cleared, Event, Tag}
 use Rattle.scalers.specs.Scalers.{isSome}
 use Rattle.core.specs.Core as core
 use Rattle.core.specs.declared.lines.Inputs.{Inputs}
 use Rattle.core.specs.declared.CoreStep.{CoreStep}
 use Rattle.core.proofs.CoreEvents.{EventStep, event-step-balances, undecided-follows}
-use Rattle.core.proofs.CoreParts.{isLoad}
 use Rattle.core.proofs.CoreLaws as laws
 use Rattle.supervisor.specs.Supervisor.{loadOf, coreStepOf, readoutStepOf, joinedOf, tickedOf, isSpoiledOf}
 use Rattle.supervisor.specs.declared.Supervisor.{Supervisor}
 use Rattle.supervisor.specs.declared.Answer.{Answer}
+use Rattle.supervisor.proofs.SupervisorLaws.{load-words, word-is-load}
+use Rattle.supervisor.proofs.SupervisorLaws.{unspoiled-is-well-formed, unspoiled-is-sound}
 use Rattle.account.specs.AccountFields.{Events, Account}
 use Rattle.account.specs.Account.{countsIn, add, sumsAfter, undecidedAfter, eventsAfter, isUnstopped, isThrough}
 use Rattle.account.specs.Account.{afterTick}
 use Rattle.account.proofs.Invariant.{Prescaling, Ordering, AddsUp, Invariant}
-
--- ---- an outcome and what it loads
-
-load-words : (o : Outcome) → wordsIn (loadOf o) ≡ outcomeWords o
-load-words Nothing = refl
-load-words Cleared = refl
-load-words (Event w) = refl
-load-words (Tag w) = refl
-
-word-is-load : (o : Outcome) → isWordOf (loadOf o) ≡ true → isLoad o ≡ true
-word-is-load Nothing h = h
-word-is-load Cleared h = h
-word-is-load (Event w) h = refl
-word-is-load (Tag w) h = refl
-
--- ---- a record that is not spoiled
-
-module _ (s : Supervisor) (clean : isSpoiledOf s ≡ false) where
-  abbrev wellFormed : Bool
-  wellFormed = readout.isWellFormedOf (core.allowsEightOf (s .core)) (s .readout)
-
-  abbrev sound : Bool
-  sound = core.isSoundOf (s .core)
-
-  unspoiled : (wellFormed && sound) ≡ true
-  unfolding isSpoiledOf
-  unspoiled = not-false (wellFormed && sound) clean
-
-  unspoiled-is-well-formed : wellFormed ≡ true
-  unspoiled-is-well-formed = and-left wellFormed sound unspoiled
-
-  unspoiled-is-sound : sound ≡ true
-  unspoiled-is-sound = and-right wellFormed sound unspoiled
 
 -- ---- the tick, part by part
 

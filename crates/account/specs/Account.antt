@@ -4,7 +4,8 @@
 --     afterTick      after a tick that was carried out
 --     afterWrite     after a register write that was carried out
 --     accountOf      after a whole log; by its type it sees neither record nor memory
--- It shares with the machine only words: which register a number names, which pulses count, what a mask's bit is.
+-- It shares with the machine only words: which register a number names, what a CSR write asks, which pulses count, what a
+-- mask's bit is, which outcome an answer reports and the word in it.
 -- Own rules of 01 used here: none. Decisions: none. Left out: nothing.
 -- Assumes nothing.
 use Prim.Native.Nat.{ℕ, suc, _+_, _-_}

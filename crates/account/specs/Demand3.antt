@@ -30,6 +30,8 @@ abbrev pub heldAt : Supervisor → (k : ℕ) → List ℕ
 heldAt s k = held (branchAt (s .readout .branches) k)
 
 pub record Balanced (branches : ℕ) (s : Supervisor) (a : Account) : Type 0 where
+  -- the record has that many branches
+  pub number : length (s .readout .branches) ≡ branches
   -- [Account.15] [Account.16] finished, then held, are the words loaded, in order
   pub order : (k : ℕ) → k < branches → a .finished k ++ heldAt s k ≡ a .words
   -- [Account.16] at most eight are held

@@ -30,7 +30,7 @@ use Rattle.branch.specs.declared.Branch.{Branch}
 use Rattle.branch.specs.declared.BranchStep.{BranchStep}
 use Rattle.branches.specs.ReadoutFields.{withBranches, branchAt}
 use Rattle.branches.specs.Readout.{emptiedOf, isQuietOf, stepAt, sideAfterOf, stepOf, gatheredOf, noSide, silentOf}
-use Rattle.branches.specs.Readout.{isSoundOf, isBlankOf, isWellFormedOf}
+use Rattle.branches.specs.Readout.{isSoundBranchOf, isBlankOf, isWellFormedOf}
 use Rattle.branches.specs.declared.Readout.{Readout}
 use Rattle.branches.specs.declared.Side.{Side}
 
@@ -81,27 +81,27 @@ quiet-is-silent acks load r four quiet none =
 
 -- ---- nothing to refuse
 
-blank-is-sound : (eight : Bool) (phase : Phase) (words len : ℕ) → words ≡ 0 → (branch.isRestOf phase && not (ltb 0 len)) ≡ true
-    → isSoundOf eight (record { words = words; len = len; phase = phase }) ≡ true
+blank-is-sound-branch : (eight : Bool) (phase : Phase) (words len : ℕ) → words ≡ 0 → (branch.isRestOf phase && not (ltb 0 len)) ≡ true
+    → isSoundBranchOf eight (record { words = words; len = len; phase = phase }) ≡ true
 unfolding branch.isWellFormedOf bytes
-blank-is-sound eight Rest words len zero h =
+blank-is-sound-branch eight Rest words len zero h =
     let none : len ≡ 0 = omega (arith, ltb-false 0 len (not-true (ltb 0 len) h)) in
     rw (zero, none) (either eight)
   where
     either : (eight : Bool) → ((eight || true) && true) ≡ true
     either true = refl
     either false = refl
-blank-is-sound eight Strobe words len zero h = absurd (true≢false (sym h))
-blank-is-sound eight Drop words len zero h = absurd (true≢false (sym h))
+blank-is-sound-branch eight Strobe words len zero h = absurd (true≢false (sym h))
+blank-is-sound-branch eight Drop words len zero h = absurd (true≢false (sym h))
 
 pub blank-is-well-formed : (eight : Bool) (r : Readout) → length (r .branches) ≡ 4
     → every (length (r .branches)) (λ k. isBlankOf (branchAt (r .branches) k)) ≡ true → isWellFormedOf eight r ≡ true
 unfolding isWellFormedOf
 blank-is-well-formed eight r four h =
-    at-every (length (r .branches)) (λ k. isSoundOf eight (branchAt (r .branches) k))
+    at-every (length (r .branches)) (λ k. isSoundBranchOf eight (branchAt (r .branches) k))
     (λ k i.
     let b : Branch = branchAt (r .branches) k in
     let blank = every-at (length (r .branches)) (λ k. isBlankOf (branchAt (r .branches) k)) h k i in
-    blank-is-sound eight (b .phase) (b .words) (b .len)
+    blank-is-sound-branch eight (b .phase) (b .words) (b .len)
     (eqb-true (b .words) 0 (and-left (eqb (b .words) 0) (branch.isQuietOf b) blank))
     (and-right (eqb (b .words) 0) (branch.isQuietOf b) blank))

@@ -29,16 +29,16 @@ use Rattle.branch.specs.declared.Branch.{Branch}
 use Rattle.branch.proofs.BranchLaws as laws
 use Rattle.branches.specs.ReadoutFields.{branchAt}
 use Rattle.branches.specs.Readout.{moduleBranches, freshOf, emptiedOf, isEmptyOf, depthOf, hasRoomOf}
-use Rattle.branches.specs.Readout.{stepAt, sideAfterOf, stepOf, noSide, isSoundOf, isWellFormedOf}
+use Rattle.branches.specs.Readout.{stepAt, sideAfterOf, stepOf, noSide, isSoundBranchOf, isWellFormedOf}
 use Rattle.branches.specs.declared.Readout.{Readout}
 
 -- ---- what the spoiled rule gives of a branch
 
 module _ (eight : Bool) (r : Readout) (fine : isWellFormedOf eight r ≡ true) (k : ℕ) (h : k < length (r .branches))
   where
-    sound-at : isSoundOf eight (branchAt (r .branches) k) ≡ true
+    sound-at : isSoundBranchOf eight (branchAt (r .branches) k) ≡ true
     unfolding isWellFormedOf
-    sound-at = every-at (length (r .branches)) (λ i. isSoundOf eight (branchAt (r .branches) i)) fine k h
+    sound-at = every-at (length (r .branches)) (λ i. isSoundBranchOf eight (branchAt (r .branches) i)) fine k h
 
     -- [Spoiled.1d] [Spoiled.1f] [Spoiled.1g]
     pub well-formed-at : WellFormedBranch (branchAt (r .branches) k)

@@ -99,12 +99,12 @@ silentOf r = record { next = r; sides = noSide ∷ noSide ∷ noSide ∷ noSide 
 -- ---- what of the branches spoils a record
 
 -- [Spoiled.1d] [Spoiled.1f] [Spoiled.1g] one branch: seven words at most, unless eight are allowed
-abbrev pub isSoundOf : (eight : Bool) → Branch → Bool
-isSoundOf eight b = (eight || branch.hasRoomOf b) && branch.isWellFormedOf b
+abbrev pub isSoundBranchOf : (eight : Bool) → Branch → Bool
+isSoundBranchOf eight b = (eight || branch.hasRoomOf b) && branch.isWellFormedOf b
 
 -- a branch with nothing in any place, which spoils no record
 abbrev pub isBlankOf : Branch → Bool
 isBlankOf b = eqb (b .words) 0 && branch.isQuietOf b
 
 unfoldable pub isWellFormedOf : (eight : Bool) → Readout → Bool
-isWellFormedOf eight r = everyBranch (λ k b. isSoundOf eight b) r
+isWellFormedOf eight r = everyBranch (λ k b. isSoundBranchOf eight b) r

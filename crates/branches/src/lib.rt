@@ -5,7 +5,7 @@ ghost use mathlib.Core.Path.{_≡_};
 ghost use lib.ListN.{length};
 ghost use Rattle.branches.specs.Readout.{moduleBranches, freshOf, emptiedOf, isEmptyOf, hasRoomOf};
 ghost use Rattle.branches.specs.Readout.{isQuietOf, sideAfterOf, gatheredOf, silentOf, stepOf};
-ghost use Rattle.branches.specs.Readout.{isSoundOf, isBlankOf, isWellFormedOf};
+ghost use Rattle.branches.specs.Readout.{isSoundBranchOf, isBlankOf, isWellFormedOf};
 ghost use Rattle.bits.specs.Notation.{if_then_else_};
 ghost use Rattle.branch.specs.Branch.{queueDepth};
 use branch::Branch;
@@ -71,8 +71,8 @@ fn depth(locked: bool) -> u32
 }
 
 // [Spoiled.1d] [Spoiled.1f] [Spoiled.1g] one branch
-fn is_sound(b: Branch, eight: bool) -> bool
-    ensures { λ r. ⌜ r ≡ isSoundOf eight b ⌝ }
+fn is_sound_branch(b: Branch, eight: bool) -> bool
+    ensures { λ r. ⌜ r ≡ isSoundBranchOf eight b ⌝ }
 {
     (eight | b.has_room()) & b.is_well_formed()
 }
@@ -205,7 +205,8 @@ impl Readout {
         if is_blank(b0) & (is_blank(b1) & (is_blank(b2) & (is_blank(b3) & true))) {
             return true;
         }
-        is_sound(b0, eight)
-            & (is_sound(b1, eight) & (is_sound(b2, eight) & (is_sound(b3, eight) & true)))
+        is_sound_branch(b0, eight)
+            & (is_sound_branch(b1, eight)
+                & (is_sound_branch(b2, eight) & (is_sound_branch(b3, eight) & true)))
     }
 }

@@ -124,8 +124,8 @@ readMemoryOf memory place s =
 -- ---- the tick
 
 -- a declined tick answers nothing
-abbrev pub noMasks : Answer
-noMasks =
+abbrev pub noAnswer : Answer
+noAnswer =
     record {
       masks = record { stopped = 0; scaled = 0; lost = 0; rejected = 0; accepted = 0 };
       lines = 0;
@@ -134,7 +134,7 @@ noMasks =
     }
 
 abbrev pub refuseTick : Decline → Supervisor → TickDone
-refuseTick d s = record { next = s; verdict = Declined d; answer = noMasks }
+refuseTick d s = record { next = s; verdict = Declined d; answer = noAnswer }
 
 -- [Declines.5c]
 abbrev pub isOutOfRange : Inputs → Bool

@@ -180,7 +180,7 @@ event-of-load (Tag w) h t = absurd (true≢false t)
 
 pub tag-loads-below-eight : (empty : Bool) (c : Core) → userStepOf empty c .tag ≡ true → allowsEightOf c ≡ false
 tag-loads-below-eight empty c tag =
-    ap₂ _||_ (ap isLoaded (idle-is-named (c .main .state) (tag-is-at-idle empty c tag))) (tag-waits-not empty c tag)
+    rw (idle-is-named (c .main .state) (tag-is-at-idle empty c tag), tag-waits-not empty c tag)
 
 pub event-loads-below-eight : (room empty : Bool) (l : Lines) (c : Core) (latch : Latch) (word : ℕ) → isSoundOf c ≡ true
     → isLoad (mainStepOf room empty l latch word c .outcome) ≡ true → allowsEightOf c ≡ false

@@ -3,7 +3,7 @@
 use Rattle.branches.specs.Readout.{isWellFormedOf}
 use mathlib.Core.Path.{sym, _∙_}
 use lib.ListN.{length}
-use Rattle.branches.specs.Readout.{isBlankOf, isSoundOf}
+use Rattle.branches.specs.Readout.{isBlankOf, isSoundBranchOf}
 use Rattle.branches.specs.ReadoutFields.{branchAt}
 use Rattle.branches.proofs.ReadoutChoices.{four-from, every-of-four, blank-is-well-formed}
 use borrow.Author.Needs.{needs}
@@ -49,17 +49,17 @@ returns c =
     ) at (c .if1 .taken) in
     sym (blank-is-well-formed (a .eight) (a .self) four (sym tests ∙ blank))
 
-is-sound-requires : tie.Need-is-sound-requires
-is-sound-requires c κs = search needs
+is-sound-branch-requires : tie.Need-is-sound-branch-requires
+is-sound-branch-requires c κs = search needs
 
-is-sound-requires-2 : tie.Need-is-sound-requires-2
-is-sound-requires-2 c κs = search needs
+is-sound-branch-requires-2 : tie.Need-is-sound-branch-requires-2
+is-sound-branch-requires-2 c κs = search needs
 
-is-sound-requires-3 : tie.Need-is-sound-requires-3
-is-sound-requires-3 c κs = search needs
+is-sound-branch-requires-3 : tie.Need-is-sound-branch-requires-3
+is-sound-branch-requires-3 c κs = search needs
 
-is-sound-requires-4 : tie.Need-is-sound-requires-4
-is-sound-requires-4 c κs = search needs
+is-sound-branch-requires-4 : tie.Need-is-sound-branch-requires-4
+is-sound-branch-requires-4 c κs = search needs
 
 returns-2 : tie.Need-returns-2
 unfolding isWellFormedOf
@@ -69,11 +69,11 @@ returns-2 c =
     let a = start .args in
     let bs = a .self .branches in
     rw (
-      c .is-sound4 .ensures,
-      c .before .is-sound3 .ensures,
-      c .before .before .is-sound2 .ensures,
-      c .before .before .before .is-sound .ensures,
-    ) (every-of-four (length bs) (λ k. isSoundOf (a .eight) (branchAt bs k)) four)
+      c .is-sound-branch4 .ensures,
+      c .before .is-sound-branch3 .ensures,
+      c .before .before .is-sound-branch2 .ensures,
+      c .before .before .before .is-sound-branch .ensures,
+    ) (every-of-four (length bs) (λ k. isSoundBranchOf (a .eight) (branchAt bs k)) four)
 
 pub is-well-formed-spec : {M : Type 1} → statement M
 is-well-formed-spec =
@@ -88,8 +88,8 @@ is-well-formed-spec =
     is-blank-requires-3
     is-blank-requires-4
     returns
-    is-sound-requires
-    is-sound-requires-2
-    is-sound-requires-3
-    is-sound-requires-4
+    is-sound-branch-requires
+    is-sound-branch-requires-2
+    is-sound-branch-requires-3
+    is-sound-branch-requires-4
     returns-2)

