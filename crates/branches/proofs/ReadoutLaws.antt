@@ -108,8 +108,11 @@ module _ (n : ℕ) where
   pub fresh-has-length : length (freshOf n .branches) ≡ n
   fresh-has-length = length-replicate n branch.freshOf
 
+  pub fresh-is-fresh : (k : ℕ) → k < n → branchAt (freshOf n .branches) k ≡ branch.freshOf
+  fresh-is-fresh k h = getD-replicate n k branch.freshOf branch.freshOf h
+
   pub fresh-holds-nothing : (k : ℕ) → k < n → held (branchAt (freshOf n .branches) k) ≡ []
-  fresh-holds-nothing k h = ap held (getD-replicate n k branch.freshOf branch.freshOf h) ∙ laws.fresh-holds-nothing
+  fresh-holds-nothing k h = ap held (fresh-is-fresh k h) ∙ laws.fresh-holds-nothing
 
 -- ---- the two facts that the core asks
 

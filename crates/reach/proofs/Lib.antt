@@ -3,3 +3,5 @@ pub mod Sound
 pub mod CoreSound
 pub mod ReadoutSound
 pub mod TickSound
+pub mod WriteSound
+pub mod Never

@@ -18,6 +18,7 @@ use Rattle.branch.proofs.BranchLaws.{held-length}
 use Rattle.branches.specs.ReadoutFields.{branchAt}
 use Rattle.branches.specs.Readout as readout
 use Rattle.branches.proofs.ReadoutLaws as laws
+use Rattle.branches.specs.declared.Readout.{Readout}
 use Rattle.sequencer.specs.MemoryWord.{isOkWord}
 use Rattle.sequencer.specs.MainFields.{quiet}
 use Rattle.sequencer.specs.States.{isIdle, isLoaded, isEvent, isTag}
@@ -29,6 +30,9 @@ use Rattle.sequencer.specs.declared.main_sequencer.State.the-variants.{Front, S
 use Rattle.sequencer.specs.declared.main_sequencer.Outcome.the-variants.{Tag}
 use Rattle.sequencer.specs.declared.main_sequencer.MainStep.{MainStep}
 use Rattle.sync.specs.UserSync.{tagWord}
+use Rattle.sync.specs.SyncCounter as counter
+use Rattle.sync.specs.declared.counter.SyncCounter.{SyncCounter}
+use Rattle.sync.specs.declared.user.UserStep.{UserStep}
 use Rattle.scalers.specs.Scalers as scalers
 use Rattle.core.specs.Core as core
 use Rattle.core.proofs.CoreParts.{isLoad, accepted-is-ready, main-has-no-tag}
@@ -36,6 +40,7 @@ use Rattle.core.proofs.CoreLaws as coreLaws
 use Rattle.core.specs.declared.lines.Inputs.{Inputs}
 use Rattle.core.specs.declared.Core.{Core}
 use Rattle.core.specs.declared.Latch.{Latch}
+use Rattle.core.specs.declared.CoreStep.{CoreStep}
 use Rattle.supervisor.specs.Supervisor.{coreStepOf, readoutStepOf, joinedOf, tickedOf}
 use Rattle.supervisor.specs.declared.Supervisor.{Supervisor}
 use Rattle.reach.specs.NeverSpoiled.{OfType}
@@ -152,3 +157,69 @@ module _ (room empty : Bool) (x : Inputs) (memory : List ℕ) (c : Core) where
           let state = ap (λ (s : MainStep). isLoaded (s .next .state)) (loaded-goes-on l) in
           step-loads-in-order _ _ .leaves (ap isLoaded (aged-keeps-state (c .main)) ∙ l) (sym state ∙ main-left)
       go false false w l eight after = absurd (true≢false (sym eight ∙ ap₂ _||_ l w))
+
+-- ---- the tick of the whole record
+
+sync-keeps-interval : (enabled : Bool) (m : MainStep) (w : UserStep) (c : SyncCounter)
+    → core.syncAfterOf enabled m w c .interval ≡ c .interval
+unfolding core.syncAfterOf counter.afterLoadOf
+sync-keeps-interval enabled m w c =
+    by-cond (λ (r : SyncCounter). r .interval ≡ c .interval) (m .ended || w .ended) (λ e. refl)
+    (λ e.
+    by-cond (λ (r : SyncCounter). r .interval ≡ c .interval) (isEvent (m .outcome))
+    (λ e.
+    by-cond (λ (r : SyncCounter). r .interval ≡ c .interval)
+    (not (counter.reachesInterval c) && counter.isCounting enabled c) (λ e. refl) (λ e. refl))
+    (λ e. refl))
+
+interval-stays : (room empty : Bool) (x : Inputs) (memory : List ℕ) (c : Core)
+    → core.stepOf room empty x memory c .next .sync .interval ≡ c .sync .interval
+unfolding core.stepOf core.settledOf
+interval-stays room empty x memory c =
+    sync-keeps-interval (csr.enablesSync (c .csr)) (mainStep room empty x memory c) (core.userStepOf empty c) (c .sync)
+
+-- every branch has room where the core's test on the branches held
+test-gives-room : (lock lock4 : Bool) (r : Readout) (k : ℕ) → k < length (r .branches)
+    → (readout.hasRoomOf lock lock4 r || readout.isEmptyOf r) ≡ true → branchAt (r .branches) k .len < queueDepth
+test-gives-room lock lock4 r k h = go (readout.hasRoomOf lock lock4 r) refl
+  where
+    go : (room : Bool) → readout.hasRoomOf lock lock4 r ≡ room → (room || readout.isEmptyOf r) ≡ true
+        → branchAt (r .branches) k .len < queueDepth
+    go true e t = laws.room-is-below-eight r k h lock lock4 e
+    go false e t =
+        let none = ap length (laws.empty-at r k h t) in
+        omega (arith, none, held-length (branchAt (r .branches) k))
+
+module _ (memory : List ℕ) (x : Inputs) (s : Supervisor) (ofType : OfType s) (u : Unspoiled s) where
+  pub tick-keeps-type : OfType (tickedOf memory x s .next)
+  unfolding tickedOf joinedOf coreStepOf
+  tick-keeps-type =
+      let lock = csr.locksRoc (s .core .csr) in
+      let lock4 = csr.locksBranch4 (s .core .csr) in
+      let room = readout.hasRoomOf lock lock4 (s .readout) in
+      let empty = readout.isEmptyOf (s .readout) in
+      record {
+        eight = coreLaws.step-keeps-lengths room empty x memory (s .core) (ofType .eight);
+        interval = rw (interval-stays room empty x memory (s .core)) (ofType .interval);
+      }
+
+  pub tick-keeps-unspoiled : Unspoiled (tickedOf memory x s .next)
+  unfolding tickedOf joinedOf coreStepOf readoutStepOf
+  tick-keeps-unspoiled =
+      let lock = csr.locksRoc (s .core .csr) in
+      let lock4 = csr.locksBranch4 (s .core .csr) in
+      let room = readout.hasRoomOf lock lock4 (s .readout) in
+      let empty = readout.isEmptyOf (s .readout) in
+      let step : CoreStep = core.stepOf room empty x memory (s .core) in
+      record {
+        core = tick-keeps-sound room empty x memory (s .core) (u .core) (ofType .interval);
+        readout = λ k h.
+            let before = rw (laws.step-keeps-length (x .acks) _ (s .readout)) at h in
+            branch-stays-sound (x .acks) (core.allowsEightOf (s .core)) (s .readout) (u .readout) k before (step .outcome)
+            (core.allowsEightOf (step .next))
+            (coreLaws.step-loads-six-bits room empty x memory (s .core))
+            (load-allows-eight room empty x memory (s .core))
+            (coreLaws.step-loads-below-eight room empty x memory (s .core) (sound-test (s .core) (u .core)))
+            (λ e e′.
+            test-gives-room lock lock4 (s .readout) k before (leaves-by-test room empty x memory (s .core) e e′));
+      }

@@ -1,0 +1,215 @@
+-- A register write that is carried out keeps a record that is not spoiled so.
+--     fresh-is-unspoiled     the fresh record, of any number of branches
+--     marked-keeps-unspoiled a status bit set by a decline
+--     write-keeps-unspoiled  a write of a value that its register takes
+-- Assumes nothing.
+use Prim.Native.Nat.{ℕ, suc, _+_, _-_, _%_, _^_, _<_}
+use mathlib.Core.Path.{_≡_, refl, sym, ap, _∙_}
+use mathlib.Core.Bool.{Bool, true, false}
+use native.Mathlib.Omega.{arith}
+use native.Mathlib.Nat.{mod-lt}
+use lib.Dec.{eqb, lit<}
+use lib.ListN.{length}
+use lib.Pow.{pow-pos}
+use borrow.Author.Tests.{eqb-true, eqb-false}
+use Rattle.bits.specs.Notation.{_▷_}
+use Rattle.bits.proofs.TestLaws.{every-at, at-every, by-cond}
+use Rattle.registers.specs.Csr as csr
+use Rattle.registers.proofs.CsrLaws as csrLaws
+use Rattle.registers.specs.Registers.{isValidValue, isValidFactor, isValidAssign}
+use Rattle.registers.specs.declared.csr.Csr.{Csr}
+use Rattle.registers.specs.declared.csr.CsrWrite.{CsrWrite}
+use Rattle.registers.specs.declared.csr.Request.{Request}
+use Rattle.registers.specs.declared.csr.Request.the-variants.{Nothing, Reset, Initialize}
+use Rattle.registers.specs.declared.register.Register.{Register}
+use Rattle.registers.specs.declared.register.Register.the-variants as register
+use Rattle.prescaler.specs.PrescalerFields.{factorAt}
+use Rattle.prescaler.specs.Prescaler as prescaler
+use Rattle.prescaler.proofs.PrescalerLaws.{EightPlaces}
+use Rattle.prescaler.proofs.PrescalerLoadLaws as loadLaws
+use Rattle.prescaler.specs.declared.Prescalers.{Prescalers}
+use Rattle.branch.specs.Branch.{hasRoomOf}
+use Rattle.branch.specs.Branch as branch
+use Rattle.branch.proofs.BranchLaws.{fresh-well-formed}
+use Rattle.branch.specs.declared.Branch.{Branch}
+use Rattle.branches.specs.ReadoutFields.{branchAt}
+use Rattle.branches.specs.Readout as readout
+use Rattle.branches.proofs.ReadoutLaws as laws
+use Rattle.branches.specs.declared.Readout.{Readout}
+use Rattle.scalers.specs.Scalers as scalers
+use Rattle.scalers.specs.declared.Scalers.{Scalers}
+use Rattle.core.specs.CoreFields.{withCsr}
+use Rattle.core.specs.Core as core
+use Rattle.core.specs.declared.Core.{Core}
+use Rattle.supervisor.specs.Supervisor.{withCore, freshOf, initializedOf, resetOf}
+use Rattle.supervisor.specs.declared.Supervisor.{Supervisor}
+use Rattle.calls.specs.Registers.{afterCsrOf, csrWrittenOf, coreWrittenOf, writtenOf}
+use Rattle.calls.specs.Calls.{markedOf}
+use Rattle.reach.specs.NeverSpoiled.{OfType}
+use Rattle.reach.proofs.Sound.{SoundCore, SoundBranch, SoundReadout, Unspoiled}
+use Rattle.reach.proofs.CoreSound.{reset-keeps-sound, fresh-is-sound}
+
+-- ---- fresh branches
+
+fresh-branch : (eight : Bool) (b : Branch) → b ≡ branch.freshOf → SoundBranch eight b
+fresh-branch eight b e = rw e (record { wellFormed = fresh-well-formed; room = λ h. refl })
+
+pub fresh-is-of-type : (n : ℕ) → OfType (freshOf n)
+unfolding freshOf core.freshOf
+fresh-is-of-type n = record { eight = loadLaws.fresh-has-lengths; interval = lit< tt }
+
+pub fresh-is-unspoiled : (n : ℕ) → Unspoiled (freshOf n)
+unfolding freshOf
+fresh-is-unspoiled n =
+    record {
+      core = fresh-is-sound;
+      readout = λ k h. fresh-branch _ _ (laws.fresh-is-fresh n k (rw (laws.fresh-has-length n) at h));
+    }
+
+-- ---- the CSR
+
+module _ (s : Supervisor) (u : Unspoiled s) where
+  -- another CSR that may be stored
+  with-csr : (w : Csr) → csr.isValidStoredCsr w ≡ true → Unspoiled (s ▷ withCore (s .core ▷ withCsr w))
+  with-csr w valid =
+      let c = u .core in
+      record {
+        core = record { counters = c .counters; factors = c .factors; csr = valid; control = c .control; assign = c .assign; main = c .main; count = c .count; waits = c .waits };
+        readout = u .readout;
+      }
+
+  -- [Declines.2c] [Declines.4d]
+  pub marked-keeps-unspoiled : (status : ℕ) → Unspoiled (markedOf status s)
+  unfolding markedOf
+  marked-keeps-unspoiled status =
+      with-csr (csr.markedOf status (s .core .csr)) (csrLaws.marked-keeps-valid status (s .core .csr) (u .core .csr))
+
+-- [CSRWrite.2d]
+reset-keeps-unspoiled : (s : Supervisor) → Unspoiled s → Unspoiled (resetOf s)
+unfolding resetOf
+reset-keeps-unspoiled s u =
+    record {
+      core = reset-keeps-sound (s .core) (u .core);
+      readout = λ k h.
+          fresh-branch _ _ (laws.emptied-is-fresh (s .readout) k (rw (laws.emptied-keeps-length (s .readout)) at h));
+    }
+
+module _ (v : ℕ) (s : Supervisor) (u : Unspoiled s) where
+  by-request : (r : Request) (w : CsrWrite) → csr.isValidStoredCsr (w .next) ≡ true → Unspoiled (afterCsrOf r w s)
+  unfolding initializedOf
+  by-request Initialize w valid = fresh-is-unspoiled (length (s .readout .branches))
+  by-request Reset w valid = reset-keeps-unspoiled (s ▷ withCore (s .core ▷ withCsr (w .next))) (with-csr s u (w .next) valid)
+  by-request Nothing w valid = with-csr s u (w .next) valid
+
+  csr-keeps-unspoiled : Unspoiled (csrWrittenOf v s)
+  unfolding csrWrittenOf
+  csr-keeps-unspoiled =
+      by-request (csr.writtenOf v (s .core .csr) .request) (csr.writtenOf v (s .core .csr))
+      (csrLaws.written-keeps-valid v (s .core .csr) (u .core .csr))
+
+-- ---- a factor
+
+module _ (input v : ℕ) (b : Prescalers) (eight : EightPlaces b) (valid : isValidFactor input v ≡ true) where
+  abbrev written : Prescalers
+  written = prescaler.withFactorOf input v b
+
+  factor-keeps-valid : prescaler.hasValidFactorsOf b ≡ true → prescaler.hasValidFactorsOf written ≡ true
+  unfolding prescaler.hasValidFactorsOf
+  factor-keeps-valid h = at-every 8 (λ i. isValidFactor (suc i) (factorAt written i)) (λ i k. go i k (eqb (i + 1) input) refl)
+    where
+      go : (i : ℕ) → i < 8 → (t : Bool) → eqb (i + 1) input ≡ t → isValidFactor (suc i) (factorAt written i) ≡ true
+      go i k true e =
+          let same : i + 1 ≡ input = eqb-true (i + 1) input e in
+          let number : suc i ≡ input = omega arith in
+          rw (loadLaws.with-factor-loads input v b i same k eight .factor, number) valid
+      go i k false e =
+          rw (loadLaws.with-factor-keeps-others input v b i (eqb-false (i + 1) input e) .factor)
+          (every-at 8 (λ j. isValidFactor (suc j) (factorAt b j)) h i k)
+
+-- ---- every register
+
+-- [Registers.3] a scaler written keeps the assign code
+zeroed-keeps-assign : (n : ℕ) (x : Scalers) → isValidAssign (x .assign) ≡ true
+    → isValidAssign (scalers.zeroedOf n x .assign) ≡ true
+zeroed-keeps-assign n x h = by-cond (λ (y : Scalers). isValidAssign (y .assign) ≡ true) (eqb n 0) (λ e. h) (λ e. h)
+
+module _ (s : Supervisor) (ofType : OfType s) (u : Unspoiled s) where
+  -- the registers of the core but for the CSR: none touches main, the user sync or the CSR
+  core-keeps-sound : (r : Register) (v : ℕ) → isValidValue r v ≡ true → SoundCore (coreWrittenOf r v (s .core))
+  unfolding coreWrittenOf
+  core-keeps-sound register.Csr v valid = u .core
+  core-keeps-sound register.Control v valid =
+      let c = u .core in
+      record { counters = c .counters; factors = c .factors; csr = c .csr; control = valid; assign = c .assign; main = c .main; count = c .count; waits = c .waits }
+  core-keeps-sound (register.Factor input) v valid =
+      let c = u .core in
+      let b = s .core .prescalers in
+      record {
+        counters = loadLaws.with-factor-keeps-within input v b (ofType .eight) (c .counters);
+        factors = factor-keeps-valid input v b (ofType .eight) valid (c .factors);
+        csr = c .csr;
+        control = c .control;
+        assign = c .assign;
+        main = c .main;
+        count = c .count;
+        waits = c .waits;
+      }
+  core-keeps-sound register.RocEnable v valid = u .core
+  core-keeps-sound register.Interval v valid =
+      let c = u .core in
+      record { counters = c .counters; factors = c .factors; csr = c .csr; control = c .control; assign = c .assign; main = c .main; count = c .count; waits = c .waits }
+  core-keeps-sound (register.Timer n) v valid =
+      let c = u .core in
+      record { counters = c .counters; factors = c .factors; csr = c .csr; control = c .control; assign = c .assign; main = c .main; count = c .count; waits = c .waits }
+  core-keeps-sound (register.Scaler n) v valid =
+      let c = u .core in
+      record { counters = c .counters; factors = c .factors; csr = c .csr; control = c .control; assign = zeroed-keeps-assign n (s .core .scalers) (c .assign); main = c .main; count = c .count; waits = c .waits }
+  core-keeps-sound register.Assign v valid =
+      let c = u .core in
+      record { counters = c .counters; factors = c .factors; csr = c .csr; control = c .control; assign = valid; main = c .main; count = c .count; waits = c .waits }
+  core-keeps-sound register.Absent v valid = u .core
+
+  -- such a write leaves the branches and what they may hold
+  with-core : (r : Register) (v : ℕ) → isValidValue r v ≡ true
+      → core.allowsEightOf (coreWrittenOf r v (s .core)) ≡ core.allowsEightOf (s .core)
+      → Unspoiled (s ▷ withCore (coreWrittenOf r v (s .core)))
+  with-core r v valid eight =
+      record { core = core-keeps-sound r v valid; readout = rw eight (u .readout) }
+
+  pub write-keeps-unspoiled : (r : Register) (v : ℕ) → isValidValue r v ≡ true → Unspoiled (writtenOf r v s)
+  unfolding writtenOf coreWrittenOf
+  write-keeps-unspoiled register.Csr v valid = csr-keeps-unspoiled v s u
+  write-keeps-unspoiled register.Control v valid = with-core register.Control v valid refl
+  write-keeps-unspoiled (register.Factor input) v valid = with-core (register.Factor input) v valid refl
+  write-keeps-unspoiled register.RocEnable v valid = record { core = u .core; readout = u .readout }
+  write-keeps-unspoiled register.Interval v valid = with-core register.Interval v valid refl
+  write-keeps-unspoiled (register.Timer n) v valid = with-core (register.Timer n) v valid refl
+  write-keeps-unspoiled (register.Scaler n) v valid = with-core (register.Scaler n) v valid refl
+  write-keeps-unspoiled register.Assign v valid = with-core register.Assign v valid refl
+  write-keeps-unspoiled register.Absent v valid = u
+
+  -- ---- and the types
+
+  of-request : (r : Request) (w : CsrWrite) → OfType (afterCsrOf r w s)
+  unfolding initializedOf resetOf core.resetOf
+  of-request Initialize w = fresh-is-of-type (length (s .readout .branches))
+  of-request Reset w =
+      record { eight = loadLaws.reloaded-keeps-lengths (s .core .prescalers) (ofType .eight); interval = ofType .interval }
+  of-request Nothing w = record { eight = ofType .eight; interval = ofType .interval }
+
+  pub write-keeps-type : (r : Register) (v : ℕ) → OfType (writtenOf r v s)
+  unfolding writtenOf coreWrittenOf csrWrittenOf
+  write-keeps-type register.Csr v =
+      of-request (csr.writtenOf v (s .core .csr) .request) (csr.writtenOf v (s .core .csr))
+  write-keeps-type register.Control v = record { eight = ofType .eight; interval = ofType .interval }
+  write-keeps-type (register.Factor input) v =
+      record {
+        eight = loadLaws.with-factor-keeps-lengths input v (s .core .prescalers) (ofType .eight);
+        interval = ofType .interval;
+      }
+  write-keeps-type register.RocEnable v = record { eight = ofType .eight; interval = ofType .interval }
+  write-keeps-type register.Interval v = record { eight = ofType .eight; interval = mod-lt v (pow-pos 16) }
+  write-keeps-type (register.Timer n) v = record { eight = ofType .eight; interval = ofType .interval }
+  write-keeps-type (register.Scaler n) v = record { eight = ofType .eight; interval = ofType .interval }
+  write-keeps-type register.Assign v = record { eight = ofType .eight; interval = ofType .interval }
+  write-keeps-type register.Absent v = ofType
