@@ -1,0 +1,27 @@
+-- One name that opens every definition on the way of a call: `unfolding machine` under a statement lets it compute.
+--     machine    stands for nothing; unfolding it unfolds what its own line names
+-- Assumes nothing.
+use mathlib.Core.Bool.{Bool, true}
+use Rattle.bits.specs.Bits as bits
+use Rattle.bits.specs.Bytes as bytes
+use Rattle.registers.specs.Control as control
+use Rattle.registers.specs.Csr as csr
+use Rattle.registers.specs.Registers as registers
+use Rattle.prescaler.specs.Prescaler as prescaler
+use Rattle.timers.specs.Timers as timers
+use Rattle.sync.specs.SyncCounter as counter
+use Rattle.sync.specs.UserSync as user
+use Rattle.sequencer.specs.MemoryWord as memory
+use Rattle.sequencer.specs.MainSequencer as main
+use Rattle.scalers.specs.Scalers as scalers
+use Rattle.branch.specs.Branch as branch
+use Rattle.branches.specs.Readout as readout
+use Rattle.core.specs.Core as core
+use Rattle.supervisor.specs.Supervisor as supervisor
+use Rattle.calls.specs.Registers as write
+use Rattle.calls.specs.Calls as calls
+use Rattle.bench.specs.Asks as asks
+
+unfoldable pub machine : Bool
+unfolding bits.maskOf bits.tabulate bits.every bytes.bytes control.countedOf csr.clearedIfOf csr.markedOf csr.syncHoldEndedOf csr.userSyncEndedOf csr.syncHoldEndedIfOf csr.userSyncEndedIfOf csr.requestedOf csr.setThenClearedOf csr.changedOf csr.writtenOf registers.numberedOf prescaler.withFactorOf prescaler.factorOf prescaler.stepOf prescaler.hasCountersWithinOf prescaler.hasValidFactorsOf timers.writtenOf timers.storedOf counter.afterLoadOf user.stepOf memory.classInOf main.agedOf main.acceptedOf main.stepOf main.isWellFormedOf scalers.countsOf scalers.countedOf branch.movedOf branch.appendedOf branch.stepOf branch.isWellFormedOf readout.emptiedOf readout.isEmptyOf readout.hasRoomOf readout.isQuietOf readout.stepOf readout.isWellFormedOf core.freshOf core.resetOf core.pulsedOf core.testsOf core.mainStepOf core.csrAfterOf core.syncAfterOf core.settledOf core.stepOf core.linesOutOf core.isSoundOf supervisor.freshOf supervisor.initializedOf supervisor.resetOf supervisor.isActiveOf supervisor.isSpoiledOf supervisor.coreStepOf supervisor.readoutStepOf supervisor.joinedOf supervisor.tickedOf calls.markedOf calls.writeRegisterOf calls.readRegisterOf calls.writeMemoryOf calls.memoryAfterOf calls.readMemoryOf calls.tickOf write.csrWrittenOf write.coreWrittenOf write.writtenOf write.storedOf asks.times
+machine = true

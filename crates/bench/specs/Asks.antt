@@ -1,0 +1,107 @@
+-- The asks of an example by name: registers, bits of their values, lines, ticks. Nothing of document 01 is decided here.
+--     write, store, pulse, lines, acknowledge   one ask
+--     ticks n, times n asks, event i            several
+-- Assumes nothing.
+use Prim.Native.Nat.{ℕ, zero, suc, _+_, _-_, _^_}
+use mathlib.Core.List.{List, [], _∷_, _++_}
+use lib.ListN.{replicate}
+use Rattle.calls.specs.Runs.{Ask, writeRegister, writeMemory, tick}
+
+-- ---- the registers, as [Registers.1] numbers them
+
+abbrev pub csr : ℕ
+csr = 0
+
+abbrev pub control : ℕ
+control = 1
+
+abbrev pub factor : (input : ℕ) → ℕ
+factor input = input + 1
+
+abbrev pub rocEnable : ℕ
+rocEnable = 10
+
+abbrev pub interval : ℕ
+interval = 11
+
+abbrev pub t1 : ℕ
+t1 = 12
+
+abbrev pub scaler0 : ℕ
+scaler0 = 17
+
+-- ---- bits of their values, and lines
+
+-- [Control.1]
+abbrev pub enable : (input : ℕ) → ℕ
+enable input = 2 ^ input
+
+abbrev pub openPrescales : ℕ
+openPrescales = 2 ^ 15
+
+-- [CSR.1] bits 0, 3, 4 and 6
+abbrev pub go : ℕ
+go = 2 ^ 0
+
+abbrev pub forceSync : ℕ
+forceSync = 2 ^ 3
+
+abbrev pub enableSync : ℕ
+enableSync = 2 ^ 4
+
+abbrev pub useT1 : ℕ
+useT1 = 2 ^ 6
+
+-- [Registers.1] controller 0 of branch 1, in ROC enable and in the acknowledges
+abbrev pub firstController : ℕ
+firstController = 2 ^ 0
+
+-- [Tick.1] lines 1 and 2
+abbrev pub pass2 : ℕ
+pass2 = 2 ^ 1
+
+abbrev pub fail2 : ℕ
+fail2 = 2 ^ 2
+
+-- ---- one ask
+
+abbrev pub write : (register value : ℕ) → Ask
+write register value = writeRegister register value
+
+-- [Memory.1] the word for a pulse of input 1 alone
+abbrev pub store : (word : ℕ) → Ask
+store word = writeMemory 1 word
+
+abbrev pub bring : (triggers lines acks : ℕ) → Ask
+bring t l a = tick (record { triggers = t; lines = record { word = l }; acks = a })
+
+-- a tick with a pulse of one input and nothing else; with lines; with acknowledges
+abbrev pub pulse : (input : ℕ) → Ask
+pulse input = bring (2 ^ (input - 1)) 0 0
+
+abbrev pub lines : ℕ → Ask
+lines l = bring 0 l 0
+
+abbrev pub acknowledge : ℕ → Ask
+acknowledge a = bring 0 0 a
+
+-- ---- several
+
+-- n ticks with nothing
+abbrev pub ticks : (n : ℕ) → List Ask
+ticks n = replicate n (bring 0 0 0)
+
+unfoldable pub times : (n : ℕ) → List Ask → List Ask
+times zero asks = []
+times (suc n) asks = asks ++ times n asks
+
+-- a pulse that is accepted in class 1, with T2 and T3 at 0: then out of Delay, loaded, and out of Space if there is room
+abbrev pub event : (input : ℕ) → List Ask
+event input = pulse input ∷ ticks 3
+
+-- [Memory.2] words that are OK, with code 5: in class 1, in class 2
+abbrev pub class1 : ℕ
+class1 = 0x0053
+
+abbrev pub class2 : ℕ
+class2 = 0x0055

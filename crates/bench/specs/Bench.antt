@@ -1,0 +1,170 @@
+-- Document 01's bench examples P1–P9, as a table.
+--     document 01   "Bench examples P1–P9"
+--     Example       a row: given these asks, ask those, look at this in each reply to those, see these numbers
+--     p1 .. p9      the rows, one for each thing that a sentence says
+--     examples      the table; allRight: each row sees what it says
+-- Input 1 pulses in every row; a mask is then 1 or 0. The n-th tick after an accept is made at age n ([Main.1]).
+-- Own rules of 01 used here: fail beats pass. Decisions: none. Left out: the misreadings, in proofs/Misreadings.
+-- Assumes nothing.
+use Prim.Native.Nat.{ℕ, _+_}
+use mathlib.Core.Bool.{Bool, true, false, _&&_}
+use mathlib.Core.List.{List, [], _∷_, _++_}
+use lib.Dec.{eqb}
+use lib.ListN.{length, take, drop}
+use Rattle.calls.specs.Answers.{Reply}
+use Rattle.calls.specs.Runs.{Ask}
+use Rattle.bench.specs.Asks.{csr, control, factor, rocEnable, interval, t1, enable, openPrescales}
+use Rattle.bench.specs.Asks.{go, enableSync, useT1, firstController, pass2, fail2}
+use Rattle.bench.specs.Asks.{write, store, pulse, lines, ticks, times, event, class1, class2}
+use Rattle.bench.specs.Sessions.{repliesTo, lost, rejected, passed, cleared, loaded, finished1}
+use Rattle.bench.specs.Sessions.{declineOrZero, decline}
+
+-- ---- a row
+
+pub record Example : Type 0 where
+  -- asks that are all carried out; nothing is looked at in their replies
+  pub first : List Ask
+  pub later : List Ask
+  pub view : Reply → List ℕ
+  -- what the view gives of the replies to the later asks, in order
+  pub seen : List ℕ
+
+infixr 3 given_ask_look_see_
+abbrev pub given_ask_look_see_ : (first later : List Ask) → (Reply → List ℕ) → List ℕ → Example
+given f ask l look v see n = record { first = f; later = l; view = v; seen = n }
+
+-- ---- the rows
+
+-- input 1 counts, and GO is set, with other bits of the CSR
+abbrev pub runningWith : (bits : ℕ) → List Ask
+runningWith bits = write control (enable 1) ∷ write csr (go + bits) ∷ []
+
+abbrev pub running : List Ask
+running = runningWith 0
+
+-- [Bench.1] factor 0: every pulse passes
+abbrev pub p1 : Example
+p1 = given write (factor 1) 0 ∷ running ask times 4 (pulse 1 ∷ []) look passed see 1 ∷ 1 ∷ 1 ∷ 1 ∷ []
+
+-- [Bench.2] factor 2: of six pulses the 3rd and the 6th
+abbrev pub p2 : Example
+p2 =
+    given write (factor 1) 2 ∷ running
+    ask times 6 (pulse 1 ∷ [])
+    look passed see 0 ∷ 0 ∷ 1 ∷ 0 ∷ 0 ∷ 1 ∷ []
+
+-- [Bench.3] GO clear, OPEN PRESCALES set, factor 0: lost
+abbrev pub p3 : Example
+p3 =
+    given write (factor 1) 0 ∷ write control (enable 1 + openPrescales) ∷ []
+    ask times 2 (pulse 1 ∷ [])
+    look lost see 1 ∷ 1 ∷ []
+
+-- [Bench.4] memory 0001h: OK without a class; and 0002h: a class without OK
+abbrev pub p4NoClass : Example
+p4NoClass = given store 0x0001 ∷ running ask pulse 1 ∷ [] look rejected see 1 ∷ []
+
+abbrev pub p4NotOk : Example
+p4NotOk = given store 0x0002 ∷ running ask pulse 1 ∷ [] look rejected see 1 ∷ []
+
+-- [Bench.5] class 2: a pass together with a fail clears the event
+abbrev pub p5 : Example
+p5 =
+    given store class2 ∷ running ++ pulse 1 ∷ []
+    ask lines (pass2 + fail2) ∷ []
+    look cleared see 1 ∷ []
+
+-- an event of class 2, n ticks old, with T1 = 3 in use
+abbrev pub aged : (n : ℕ) → List Ask
+aged n = store class2 ∷ write t1 3 ∷ runningWith useT1 ++ pulse 1 ∷ ticks n
+
+-- [Bench.6] T1 = 3 in use: a fail at age 5 clears; at age 6 it is late, and the word that is loaded next has bit 5
+abbrev pub p6Clears : Example
+p6Clears = given aged 4 ask lines fail2 ∷ [] look cleared see 1 ∷ []
+
+abbrev pub p6IsLate : Example
+p6IsLate = given aged 5 ask lines fail2 ∷ [] look cleared see 0 ∷ []
+
+abbrev pub p6LateWord : Example
+p6LateWord = given aged 5 ++ lines fail2 ∷ [] ask ticks 1 look loaded see 0x25 ∷ []
+
+-- [Bench.7] interval 1 with CSR bit 4: each event has the sync bit
+abbrev pub p7 : Example
+p7 =
+    given store class1 ∷ write interval 1 ∷ runningWith enableSync
+    ask event 1 ++ ticks 8 ++ event 1
+    look loaded see 0x15 ∷ 0x15 ∷ []
+
+-- eight events, with one controller enabled that never acknowledges
+abbrev pub eightHeld : List Ask
+eightHeld = store class1 ∷ write rocEnable firstController ∷ running ++ times 8 (event 1)
+
+-- [Bench.8] eight words are held, none is finished, and a ninth pulse is lost
+abbrev pub p8Loaded : Example
+p8Loaded =
+    given store class1 ∷ write rocEnable firstController ∷ running
+    ask times 8 (event 1)
+    look loaded see 5 ∷ 5 ∷ 5 ∷ 5 ∷ 5 ∷ 5 ∷ 5 ∷ 5 ∷ []
+
+abbrev pub p8Finished : Example
+p8Finished =
+    given store class1 ∷ write rocEnable firstController ∷ running
+    ask times 8 (event 1)
+    look finished1 see []
+
+abbrev pub p8Lost : Example
+p8Lost = given eightHeld ask pulse 1 ∷ [] look lost see 1 ∷ []
+
+-- [Bench.9] the factor of input 8: 3FFFh is taken, 4000h is declined with 5
+abbrev pub p9Taken : Example
+p9Taken = given [] ask write (factor 8) 0x3FFF ∷ [] look decline see 0 ∷ []
+
+abbrev pub p9Declined : Example
+p9Declined = given [] ask write (factor 8) 0x4000 ∷ [] look decline see 5 ∷ []
+
+-- ---- the table
+
+abbrev pub examples : List Example
+examples =
+    p1
+    ∷ p2
+    ∷ p3
+    ∷ p4NoClass
+    ∷ p4NotOk
+    ∷ p5
+    ∷ p6Clears
+    ∷ p6IsLate
+    ∷ p6LateWord
+    ∷ p7
+    ∷ p8Loaded
+    ∷ p8Finished
+    ∷ p8Lost
+    ∷ p9Taken
+    ∷ p9Declined
+    ∷ []
+
+-- ---- a row is right
+
+abbrev sameNumbers : List ℕ → List ℕ → Bool
+sameNumbers [] [] = true
+sameNumbers [] (m ∷ ms) = false
+sameNumbers (n ∷ ns) [] = false
+sameNumbers (n ∷ ns) (m ∷ ms) = eqb n m && sameNumbers ns ms
+
+abbrev viewed : (Reply → List ℕ) → List Reply → List ℕ
+viewed view [] = []
+viewed view (r ∷ rs) = view r ++ viewed view rs
+
+abbrev allCarriedOut : List Reply → Bool
+allCarriedOut [] = true
+allCarriedOut (r ∷ rs) = eqb (declineOrZero r) 0 && allCarriedOut rs
+
+abbrev pub isRight : Example → Bool
+isRight e =
+    let replies = repliesTo (e .first ++ e .later) in
+    allCarriedOut (take (length (e .first)) replies)
+    && sameNumbers (viewed (e .view) (drop (length (e .first)) replies)) (e .seen)
+
+abbrev pub allRight : List Example → Bool
+allRight [] = true
+allRight (e ∷ es) = isRight e && allRight es
