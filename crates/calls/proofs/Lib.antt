@@ -1,1 +1,2 @@
--- The laws. Assumes nothing.
+-- The laws; the proofs of functions stand in folders of their own. Assumes nothing.
+pub mod CallsLaws

@@ -1,0 +1,2 @@
+-- Each claim, proved. Assumes nothing.
+pub mod Proved

@@ -1,0 +1,76 @@
+-- What is claimed of the trigger supervisor: every demand, and every promise beyond the demands, as one line under a
+-- paragraph in document 01's terms. proofs/Proved.antt proves each by citing its theorem.
+--
+-- The contracts of the public calls are proved in the crate `calls`; each is an equality with the definition named here, for
+-- every record, every memory of any length and every argument, and none has a `requires`:
+--     Supervisor::fresh      supervisor/specs/Supervisor, freshOf at moduleBranches, which is four
+--     write_register         calls/specs/Calls, writeRegisterOf
+--     read_register          calls/specs/Calls, readRegisterOf
+--     write_memory           calls/specs/Calls, writeMemoryOf, and memoryAfterOf for the memory after it
+--     read_memory            calls/specs/Calls, readMemoryOf; the memory is lent for reading only
+--     tick                   calls/specs/Calls, tickOf; the memory is lent for reading only
+-- That a function is proved says besides that it does nothing undefined and that it ends.
+-- Assumes nothing.
+use Prim.Native.Nat.{ℕ, _<_}
+use mathlib.Core.Path.{_≡_}
+use mathlib.Core.Bool.{Bool, true, false}
+use mathlib.Core.List.{List}
+use Rattle.branches.specs.Readout.{moduleBranches}
+use Rattle.supervisor.specs.Supervisor.{isSpoiledOf}
+use Rattle.supervisor.specs.declared.Supervisor.{Supervisor}
+use Rattle.calls.specs.Answers.{declined}
+use Rattle.calls.specs.Runs.{Ask, Call, askOf, memoryAfter}
+use Rattle.calls.proofs.CallsLaws.{Leaves, statusBit}
+use Rattle.account.specs.Demand3.{Demand3}
+use Rattle.account.proofs.Theorem.{wordsOf}
+use Rattle.reach.specs.NeverSpoiled.{OfType, KeepsUnspoiled, NeverSpoiled}
+use Rattle.bench.specs.Bench.{examples, allRight}
+
+-- ---- demand 1, beside the contracts
+
+-- A refusal leaves the record as it is; only a refusal with 4 sets a status bit: 19 for a write, 20 for a read.
+abbrev pub RefusalLeavesRecord : Type 0
+RefusalLeavesRecord =
+    (a : Ask) (memory : List ℕ) (s : Supervisor)
+    → Leaves (statusBit a) s (askOf a memory s .reply) (askOf a memory s .next)
+
+-- A refusal leaves the lent memory as it is.
+abbrev pub RefusalLeavesMemory : Type 0
+RefusalLeavesMemory =
+    (a : Ask) (memory : List ℕ) (s : Supervisor) (n : ℕ) → askOf a memory s .reply ≡ declined n → memoryAfter a memory s ≡ memory
+
+-- A spoiled record refuses every call with 1, before all else.
+abbrev pub SpoiledRecordRefuses : Type 0
+SpoiledRecordRefuses =
+    (a : Ask) (memory : List ℕ) (s : Supervisor) → isSpoiledOf s ≡ true → askOf a memory s .reply ≡ declined 1
+
+-- ---- demand 3
+
+-- After every list of calls from a fresh supervisor, refused ones among them, whatever memory is lent, record and account
+-- balance: the words of each branch in order and at most eight held, the masks of each input, the events, n div (F + 1).
+abbrev pub EveryRunBalances : Type 0
+EveryRunBalances = Demand3 moduleBranches
+
+-- The same for a supervisor of any number of branches.
+abbrev pub EveryRunBalancesAtAnySize : Type 0
+EveryRunBalancesAtAnySize = (branches : ℕ) → Demand3 branches
+
+-- Any two branches of the module have finished and hold the same words, in the same order.
+abbrev pub AnyTwoBranchesAgree : Type 0
+AnyTwoBranchesAgree =
+    (calls : List Call) (j k : ℕ) → j < moduleBranches → k < moduleBranches
+    → wordsOf moduleBranches calls j ≡ wordsOf moduleBranches calls k
+
+-- ---- beyond the demands
+
+-- No list of calls from a fresh supervisor reaches a spoiled record.
+abbrev pub NoRunIsSpoiled : Type 0
+NoRunIsSpoiled = NeverSpoiled moduleBranches
+
+-- Every call leaves a record that is not spoiled so, reachable or not.
+abbrev pub EveryCallKeepsUnspoiled : Type 0
+EveryCallKeepsUnspoiled = (c : Call) (s : Supervisor) → OfType s → isSpoiledOf s ≡ false → KeepsUnspoiled c s
+
+-- The bench examples P1–P9, as one statement over their table.
+abbrev pub BenchExamples : Type 0
+BenchExamples = allRight examples ≡ true

@@ -1,0 +1,2 @@
+-- What is claimed. Assumes nothing.
+pub mod Claims
