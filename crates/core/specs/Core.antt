@@ -108,7 +108,8 @@ isReadyOf l c = isIdle (c .main .state) && isOpenOf l c
 abbrev pub wordAtOf : List ℕ → (pattern : ℕ) → ℕ
 wordAtOf memory pattern = getD memory pattern 0
 
--- [Ready.2] [Ready.4] [Ready.5] lost if not ready; else all rejected or all accepted. With none passed every mask is 0
+-- [Ready.2] [Ready.3] [Ready.4] [Ready.5] lost if not ready; else all rejected or all accepted; with none passed nothing
+-- is latched: every mask is 0
 abbrev pub latchOf : (ready ok : Bool) (passed : ℕ) → Latch
 latchOf ready ok passed =
     record {
@@ -225,6 +226,7 @@ abbrev pub latchedOf : Inputs → List ℕ → Core → Latch
 latchedOf x memory c =
     latchOf (isReadyOf (x .lines) c) (isOkWord (wordAtOf memory (pulsedOf x c .passed))) (pulsedOf x c .passed)
 
+-- [Tick.2] every part is given the record at the tick's start
 unfoldable pub stepOf : (room empty : Bool) → Inputs → List ℕ → Core → CoreStep
 stepOf room empty x memory c =
     settledOf (x .lines) (pulsedOf x c) (latchedOf x memory c)

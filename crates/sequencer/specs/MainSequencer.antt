@@ -200,7 +200,7 @@ isClearing m = ltb 0 (m .clear)
 abbrev pub isClassOfWait2 : ℕ → Bool
 isClassOfWait2 class = eqb class 2 || eqb class 3
 
--- [Spoiled.1b] [Spoiled.1c] [Spoiled.1i] in this order
+-- [Spoiled.1b] [Spoiled.1c] [Spoiled.1i] in this order; [Spoiled.1j] c is a byte, so it is never over 255
 unfoldable pub isWellFormedOf : MainSequencer → Bool
 isWellFormedOf m =
     allTrue (

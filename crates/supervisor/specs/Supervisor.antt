@@ -38,7 +38,7 @@ withCore v s = record { readout = s .readout; core = v }
 
 -- ---- fresh, and RESET
 
--- [Registers.4] all zero, all idle
+-- [Registers.4] [Declines.6] all zero, all idle; nothing declines it
 unfoldable pub freshOf : (branches : ℕ) → Supervisor
 freshOf n = record { readout = readout.freshOf n; core = core.freshOf }
 
