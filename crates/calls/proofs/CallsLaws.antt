@@ -27,127 +27,34 @@ use Rattle.calls.specs.Calls.{writeRegisterOf, readRegisterOf, writeMemo
 use Rattle.calls.specs.Calls.{isOutOfRange, tickOf}
 use Rattle.calls.specs.Runs.{Ask, writeRegister, readRegister, writeMemory, readMemory, tick, askOf}
 use Rattle.calls.specs.Runs.{memoryAfter}
-
--- the status bit of a refusal with 4: 20 for a read, 19 for a write
-abbrev pub statusBit : Ask → ℕ
-statusBit (writeRegister number v) = writeError
-statusBit (readRegister number) = readError
-statusBit (writeMemory place word) = writeError
-statusBit (readMemory place) = readError
-statusBit (tick x) = readError
+use Rattle.calls.proofs.CallEnds.{End, refused, refusedActive, wrote, gave, stored, ran, statusBit, call-ends}
 
 -- what a refusal leaves of the record s, with the status bit that 4 sets
 pub record Leaves (bit : ℕ) (s : Supervisor) (reply : Reply) (next : Supervisor) : Type 0 where
   pub other : (n : ℕ) → reply ≡ declined n → (n ≡ 4 → ⊥) → next ≡ s
   pub active : reply ≡ declined 4 → next ≡ markedOf bit s
 
--- ---- the three kinds of end
+-- a reply that is no refusal leaves what it leaves
+no-refusal : (bit : ℕ) (s : Supervisor) (reply : Reply) (next : Supervisor) → ((n : ℕ) → reply ≡ declined n → ⊥)
+    → Leaves bit s reply next
+no-refusal bit s reply next h = record { other = λ n e g. absurd (h n e); active = λ e. absurd (h 4 e) }
 
-module _ (bit : ℕ) (s : Supervisor) where
-  refused : (k : ℕ) → (k ≡ 4 → ⊥) → Leaves bit s (declined k) s
-  refused k h = record { other = λ n e g. refl; active = λ e. absurd (h (cc)) }
-
-  refused-active : Leaves bit s (declined 4) (markedOf bit s)
-  refused-active =
-      record { other = λ n e h. let four : n ≡ 4 = cc in absurd (h four); active = λ e. refl }
-
-  carried-out : (next : Supervisor) → Leaves bit s done next
-  carried-out next =
-      record {
-        other = λ n e h. let z : _≡_ {A = ℕ} 0 1 = cc in absurd (omega arith);
-        active = λ e. let z : _≡_ {A = ℕ} 0 1 = cc in absurd (omega arith);
-      }
-
-  answered : (v : ℕ) (next : Supervisor) → Leaves bit s (value v) next
-  answered v next =
-      record {
-        other = λ n e h. let z : _≡_ {A = ℕ} 0 1 = cc in absurd (omega arith);
-        active = λ e. let z : _≡_ {A = ℕ} 0 1 = cc in absurd (omega arith);
-      }
-
-  ran : (a : Answer) (next : Supervisor) → Leaves bit s (ticked a) next
-  ran a next =
-      record {
-        other = λ n e h. let z : _≡_ {A = ℕ} 0 1 = cc in absurd (omega arith);
-        active = λ e. let z : _≡_ {A = ℕ} 0 1 = cc in absurd (omega arith);
-      }
-
--- ---- each call, decline by decline
-
-module _ (s : Supervisor) where
-  write-register : (number v : ℕ)
-      → Leaves writeError s (verdictReply (writeRegisterOf number v s .answer)) (writeRegisterOf number v s .next)
-  unfolding writeRegisterOf
-  write-register number v =
-      by-cond End (isSpoiledOf s) (λ e. refused writeError s 1 (λ h. omega arith))
-      (λ e. by-cond End (ltb lastRegister number) (λ e. refused writeError s 3 (λ h. omega arith))
-      (λ e. by-cond End (isActiveOf s && isProtected number) (λ e. refused-active writeError s)
-      (λ e. by-cond End (not (isValidValue (numberedOf number) v)) (λ e. refused writeError s 5 (λ h. omega arith))
-      (λ e. carried-out writeError s _))))
-    where
-      End : WriteDone → Type 0
-      End r = Leaves writeError s (verdictReply (r .answer)) (r .next)
-
-  read-register : (number : ℕ)
-      → Leaves readError s (readingReply (readRegisterOf number s .answer)) (readRegisterOf number s .next)
-  unfolding readRegisterOf
-  read-register number =
-      by-cond End (isSpoiledOf s) (λ e. refused readError s 1 (λ h. omega arith))
-      (λ e. by-cond End (ltb lastRegister number) (λ e. refused readError s 3 (λ h. omega arith))
-      (λ e. answered readError s _ s))
-    where
-      End : ReadDone → Type 0
-      End r = Leaves readError s (readingReply (r .answer)) (r .next)
-
-  module _ (memory : List ℕ) where
-    abbrev otherLength : Bool
-    otherLength = not (eqb (length memory) memoryPlaces)
-
-    write-memory : (place : ℕ)
-        → Leaves writeError s (verdictReply (writeMemoryOf memory place s .answer)) (writeMemoryOf memory place s .next)
-    unfolding writeMemoryOf
-    write-memory place =
-        by-cond End (isSpoiledOf s) (λ e. refused writeError s 1 (λ h. omega arith))
-        (λ e. by-cond End otherLength (λ e. refused writeError s 2 (λ h. omega arith))
-        (λ e. by-cond End (leb memoryPlaces place) (λ e. refused writeError s 3 (λ h. omega arith))
-        (λ e. by-cond End (isActiveOf s) (λ e. refused-active writeError s) (λ e. carried-out writeError s s))))
-      where
-        End : WriteDone → Type 0
-        End r = Leaves writeError s (verdictReply (r .answer)) (r .next)
-
-    read-memory : (place : ℕ)
-        → Leaves readError s (readingReply (readMemoryOf memory place s .answer)) (readMemoryOf memory place s .next)
-    unfolding readMemoryOf
-    read-memory place =
-        by-cond End (isSpoiledOf s) (λ e. refused readError s 1 (λ h. omega arith))
-        (λ e. by-cond End otherLength (λ e. refused readError s 2 (λ h. omega arith))
-        (λ e. by-cond End (leb memoryPlaces place) (λ e. refused readError s 3 (λ h. omega arith))
-        (λ e. by-cond End (isActiveOf s) (λ e. refused-active readError s) (λ e. answered readError s _ s))))
-      where
-        End : ReadDone → Type 0
-        End r = Leaves readError s (readingReply (r .answer)) (r .next)
-
-    run-tick : (x : Inputs)
-        → Leaves readError s (tickReply (tickOf memory x s .verdict) (tickOf memory x s .answer)) (tickOf memory x s .next)
-    unfolding tickOf
-    run-tick x =
-        by-cond End (isSpoiledOf s) (λ e. refused readError s 1 (λ h. omega arith))
-        (λ e. by-cond End otherLength (λ e. refused readError s 2 (λ h. omega arith))
-        (λ e. by-cond End (isOutOfRange x) (λ e. refused readError s 5 (λ h. omega arith)) (λ e. ran readError s _ _)))
-      where
-        End : TickDone → Type 0
-        End r = Leaves readError s (tickReply (r .verdict) (r .answer)) (r .next)
-
--- ---- the promises
+end-leaves : {memory : List ℕ} {s : Supervisor} {a : Ask} {reply : Reply} {next : Supervisor}
+    → End memory s a reply next → Leaves (statusBit a) s reply next
+end-leaves (refused a n h) =
+    record { other = λ k e g. refl; active = λ e. let four : n ≡ 4 = cc in absurd (h four) }
+end-leaves (refusedActive a) =
+    record { other = λ k e g. let four : k ≡ 4 = cc in absurd (g four); active = λ e. refl }
+end-leaves {s = s} (wrote number v valid) =
+    no-refusal _ s done _ (λ n e. let z : _≡_ {A = ℕ} 0 1 = cc in omega arith)
+end-leaves {s = s} (gave a v) = no-refusal _ s (value v) _ (λ n e. let z : _≡_ {A = ℕ} 0 1 = cc in omega arith)
+end-leaves {s = s} (stored place word) = no-refusal _ s done _ (λ n e. let z : _≡_ {A = ℕ} 0 1 = cc in omega arith)
+end-leaves {s = s} (ran x clean) = no-refusal _ s (ticked _) _ (λ n e. let z : _≡_ {A = ℕ} 0 1 = cc in omega arith)
 
 -- [Declines.1b]
 pub refusal-leaves : (a : Ask) (memory : List ℕ) (s : Supervisor)
     → Leaves (statusBit a) s (askOf a memory s .reply) (askOf a memory s .next)
-refusal-leaves (writeRegister number v) memory s = write-register s number v
-refusal-leaves (readRegister number) memory s = read-register s number
-refusal-leaves (writeMemory place word) memory s = write-memory s memory place
-refusal-leaves (readMemory place) memory s = read-memory s memory place
-refusal-leaves (tick x) memory s = run-tick s memory x
+refusal-leaves a memory s = end-leaves (call-ends memory s a)
 
 -- [Declines.2a] [Declines.3a] [Declines.4a] [Declines.5a]
 pub spoiled-declines-all : (a : Ask) (memory : List ℕ) (s : Supervisor) → isSpoiledOf s ≡ true

@@ -20,7 +20,8 @@ use Rattle.supervisor.specs.Supervisor.{isSpoiledOf}
 use Rattle.supervisor.specs.declared.Supervisor.{Supervisor}
 use Rattle.calls.specs.Answers.{declined}
 use Rattle.calls.specs.Runs.{Ask, Call, askOf, memoryAfter}
-use Rattle.calls.proofs.CallsLaws.{Leaves, statusBit}
+use Rattle.calls.proofs.CallEnds.{statusBit}
+use Rattle.calls.proofs.CallsLaws.{Leaves}
 use Rattle.account.specs.Demand3.{Demand3}
 use Rattle.account.proofs.Theorem.{wordsOf}
 use Rattle.reach.specs.NeverSpoiled.{OfType, KeepsUnspoiled, NeverSpoiled}
