@@ -7,27 +7,18 @@
 --     module-balances, module-any-two   the same for a module's four branches
 -- Assumes nothing.
 use Prim.Native.Nat.{ℕ, _<_}
-use mathlib.Core.Path.{_≡_, sym, _∙_}
-use mathlib.Core.Bool.{not, _&&_}
+use mathlib.Core.Path.{_≡_, refl, sym, _∙_}
 use mathlib.Core.List.{List, [], _∷_, _++_}
-use lib.Dec.{eqb, ltb, leb}
-use lib.ListN.{length}
-use Rattle.bits.proofs.TestLaws.{by-cond}
-use Rattle.registers.specs.Registers.{numberedOf, isValidValue}
 use Rattle.prescaler.specs.PrescalerFields.{counterAt, factorAt}
 use Rattle.prescaler.proofs.PrescalerLaws.{pass-count-divides}
 use Rattle.branches.specs.Readout.{moduleBranches}
-use Rattle.core.specs.declared.lines.Inputs.{Inputs}
-use Rattle.supervisor.specs.Supervisor.{freshOf, isActiveOf, isSpoiledOf}
+use Rattle.supervisor.specs.Supervisor.{freshOf}
 use Rattle.supervisor.specs.declared.Supervisor.{Supervisor}
-use Rattle.calls.specs.Answers.{verdictReply, readingReply, tickReply}
-use Rattle.calls.specs.Calls.{lastRegister, memoryPlaces, isProtected, isOutOfRange, writeError, readError, markedOf}
-use Rattle.calls.specs.Calls.{writeRegisterOf, readRegisterOf, writeMemoryOf, readMemoryOf, tickOf}
-use Rattle.calls.specs.declared.WriteDone.{WriteDone}
-use Rattle.calls.specs.declared.ReadDone.{ReadDone}
-use Rattle.calls.specs.declared.TickDone.{TickDone}
+use Rattle.calls.specs.Answers.{Reply, declined, value}
+use Rattle.calls.specs.Calls.{markedOf}
 use Rattle.calls.specs.Runs.{Ask, writeRegister, readRegister, writeMemory, readMemory, tick}
-use Rattle.calls.specs.Runs.{Call, askOf, callOf, recordAfter, logOf}
+use Rattle.calls.specs.Runs.{Call, callOf, recordAfter, logOf}
+use Rattle.calls.proofs.CallEnds.{End, refused, refusedActive, wrote, gave, stored, ran, statusBit, call-ends}
 use Rattle.account.specs.AccountFields.{Account}
 use Rattle.account.specs.Account.{start, afterEntry, accountOf}
 use Rattle.account.specs.Demand3.{heldAt, Balanced, Demand3}
@@ -35,76 +26,42 @@ use Rattle.account.proofs.Invariant.{Invariant}
 use Rattle.account.proofs.WriteLaw.{fresh-has-invariant, write-keeps-invariant}
 use Rattle.account.proofs.TickLaw.{ticked-keeps-invariant}
 
--- ---- one call: the declines in their order, then what is carried out
+-- ---- one call, by how it ends
 
-module _ {branches : ℕ} (s : Supervisor) (a : Account) (v : Invariant branches s a) where
-  -- a status bit is nothing that the account follows
-  marked-keeps-invariant : (status : ℕ) → Invariant branches (markedOf status s) a
-  unfolding markedOf
-  marked-keeps-invariant status = v
+-- a status bit is nothing that the account follows
+marked-keeps-invariant : {branches : ℕ} (status : ℕ) (s : Supervisor) (a : Account) → Invariant branches s a
+    → Invariant branches (markedOf status s) a
+unfolding markedOf
+marked-keeps-invariant status s a v = v
 
-  -- what a result of each kind must give
-  abbrev KeptByWrite : Ask → WriteDone → Type 0
-  KeptByWrite ask w = Invariant branches (w .next) (afterEntry ask (verdictReply (w .answer)) a)
+-- [Account.5] a refusal and a value read leave the account alone, whatever was asked
+refusal-keeps-account : (ask : Ask) (n : ℕ) (a : Account) → afterEntry ask (declined n) a ≡ a
+refusal-keeps-account (writeRegister number x) n a = refl
+refusal-keeps-account (readRegister number) n a = refl
+refusal-keeps-account (writeMemory place word) n a = refl
+refusal-keeps-account (readMemory place) n a = refl
+refusal-keeps-account (tick x) n a = refl
 
-  abbrev KeptByRead : Ask → ReadDone → Type 0
-  KeptByRead ask r = Invariant branches (r .next) (afterEntry ask (readingReply (r .answer)) a)
+value-keeps-account : (ask : Ask) (n : ℕ) (a : Account) → afterEntry ask (value n) a ≡ a
+value-keeps-account (writeRegister number x) n a = refl
+value-keeps-account (readRegister number) n a = refl
+value-keeps-account (writeMemory place word) n a = refl
+value-keeps-account (readMemory place) n a = refl
+value-keeps-account (tick x) n a = refl
 
-  abbrev KeptByTick : Inputs → TickDone → Type 0
-  KeptByTick x t = Invariant branches (t .next) (afterEntry (tick x) (tickReply (t .verdict) (t .answer)) a)
+end-keeps-invariant : {branches : ℕ} {memory : List ℕ} {s : Supervisor} {ask : Ask} {reply : Reply} {next : Supervisor}
+    (a : Account) → Invariant branches s a → End memory s ask reply next → Invariant branches next (afterEntry ask reply a)
+end-keeps-invariant a v (refused ask n h) = rw (refusal-keeps-account ask n a) v
+end-keeps-invariant {s = s} a v (refusedActive ask) =
+    rw (refusal-keeps-account ask 4 a) (marked-keeps-invariant (statusBit ask) s a v)
+end-keeps-invariant {s = s} a v (wrote number x valid) = write-keeps-invariant number x s a v
+end-keeps-invariant a v (gave ask n) = rw (value-keeps-account ask n a) v
+end-keeps-invariant a v (stored place word) = v
+end-keeps-invariant {memory = memory} {s = s} a v (ran x clean) = ticked-keeps-invariant memory x s clean a v
 
-  write-register-keeps : (number x : ℕ) → KeptByWrite (writeRegister number x) (writeRegisterOf number x s)
-  unfolding writeRegisterOf
-  write-register-keeps number x =
-      by-cond (KeptByWrite (writeRegister number x)) (isSpoiledOf s) (λ e. v) (λ clean.
-      by-cond (KeptByWrite (writeRegister number x)) (ltb lastRegister number) (λ e. v) (λ here.
-      by-cond (KeptByWrite (writeRegister number x)) (isActiveOf s && isProtected number)
-      (λ e. marked-keeps-invariant writeError) (λ free.
-      by-cond (KeptByWrite (writeRegister number x)) (not (isValidValue (numberedOf number) x)) (λ e. v) (λ valid.
-      write-keeps-invariant number x s a v))))
-
-  read-register-keeps : (number : ℕ) → KeptByRead (readRegister number) (readRegisterOf number s)
-  unfolding readRegisterOf
-  read-register-keeps number =
-      by-cond (KeptByRead (readRegister number)) (isSpoiledOf s) (λ e. v) (λ clean.
-      by-cond (KeptByRead (readRegister number)) (ltb lastRegister number) (λ e. v) (λ here. v))
-
-  write-memory-keeps : (memory : List ℕ) (place word : ℕ)
-      → KeptByWrite (writeMemory place word) (writeMemoryOf memory place s)
-  unfolding writeMemoryOf
-  write-memory-keeps memory place word =
-      by-cond (KeptByWrite (writeMemory place word)) (isSpoiledOf s) (λ e. v) (λ clean.
-      by-cond (KeptByWrite (writeMemory place word)) (not (eqb (length memory) memoryPlaces)) (λ e. v) (λ fits.
-      by-cond (KeptByWrite (writeMemory place word)) (leb memoryPlaces place) (λ e. v) (λ here.
-      by-cond (KeptByWrite (writeMemory place word)) (isActiveOf s)
-      (λ e. marked-keeps-invariant writeError) (λ free. v))))
-
-  read-memory-keeps : (memory : List ℕ) (place : ℕ) → KeptByRead (readMemory place) (readMemoryOf memory place s)
-  unfolding readMemoryOf
-  read-memory-keeps memory place =
-      by-cond (KeptByRead (readMemory place)) (isSpoiledOf s) (λ e. v) (λ clean.
-      by-cond (KeptByRead (readMemory place)) (not (eqb (length memory) memoryPlaces)) (λ e. v) (λ fits.
-      by-cond (KeptByRead (readMemory place)) (leb memoryPlaces place) (λ e. v) (λ here.
-      by-cond (KeptByRead (readMemory place)) (isActiveOf s) (λ e. marked-keeps-invariant readError) (λ free. v))))
-
-  tick-keeps : (memory : List ℕ) (x : Inputs) → KeptByTick x (tickOf memory x s)
-  unfolding tickOf
-  tick-keeps memory x =
-      by-cond (KeptByTick x) (isSpoiledOf s) (λ e. v) (λ clean.
-      by-cond (KeptByTick x) (not (eqb (length memory) memoryPlaces)) (λ e. v) (λ fits.
-      by-cond (KeptByTick x) (isOutOfRange x) (λ e. v) (λ within. ticked-keeps-invariant memory x s clean a v)))
-
-  ask-keeps-invariant : (ask : Ask) (memory : List ℕ)
-      → Invariant branches (askOf ask memory s .next) (afterEntry ask (askOf ask memory s .reply) a)
-  ask-keeps-invariant (writeRegister number x) memory = write-register-keeps number x
-  ask-keeps-invariant (readRegister number) memory = read-register-keeps number
-  ask-keeps-invariant (writeMemory place word) memory = write-memory-keeps memory place word
-  ask-keeps-invariant (readMemory place) memory = read-memory-keeps memory place
-  ask-keeps-invariant (tick x) memory = tick-keeps memory x
-
-  pub call-keeps-invariant : (c : Call)
-      → Invariant branches (callOf c s .next) (afterEntry (c .ask) (callOf c s .reply) a)
-  call-keeps-invariant c = ask-keeps-invariant (c .ask) (c .memory)
+pub call-keeps-invariant : {branches : ℕ} (s : Supervisor) (a : Account) → Invariant branches s a → (c : Call)
+    → Invariant branches (callOf c s .next) (afterEntry (c .ask) (callOf c s .reply) a)
+call-keeps-invariant s a v c = end-keeps-invariant a v (call-ends (c .memory) s (c .ask))
 
 -- ---- the whole list
 
