@@ -3,7 +3,7 @@
 --     idle-half-is-step, cycle-half-is-step                 for `Core::step`
 -- Assumes nothing.
 use Prim.Native.Nat.{ℕ}
-use mathlib.Core.Path.{_≡_, refl, sym, ap, _∙_}
+use mathlib.Core.Path.{_≡_, refl, sym}
 use mathlib.Core.Bool.{Bool, true, false, not, _&&_, true≢false, false≢true}
 use mathlib.Core.List.{List}
 use Rattle.bits.specs.Notation.{if_then_else_}
@@ -13,11 +13,6 @@ use Rattle.sequencer.specs.MemoryWord.{isOkWord}
 use Rattle.sequencer.specs.MainFields.{quiet}
 use Rattle.sequencer.specs.States.{isIdle}
 use Rattle.sequencer.specs.MainSequencer as main
-use Rattle.sequencer.proofs.MainLaws.{idle-stays, idle-does-not-age}
-use Rattle.sequencer.specs.declared.main_sequencer.State.{State}
-use Rattle.sequencer.specs.declared.main_sequencer.State.the-variants.{Idle, Delay, Wait2, Wait3}
-use Rattle.sequencer.specs.declared.main_sequencer.State.the-variants.{Front, Space, SyncHold, Clear}
-use Rattle.sequencer.specs.declared.main_sequencer.MainSequencer.{MainSequencer}
 use Rattle.sequencer.specs.declared.main_sequencer.MainStep.{MainStep}
 use Rattle.scalers.specs.Scalers as scalers
 use Rattle.core.specs.Core.{pulsedOf, isOpenOf, wordAtOf, latchOf, testsOf, cycleStepOf, mainStepOf, settledOf, stepOf}
@@ -26,6 +21,7 @@ use Rattle.core.specs.declared.lines.Inputs.{Inputs}
 use Rattle.core.specs.declared.Core.{Core}
 use Rattle.core.specs.declared.Latch.{Latch}
 use Rattle.core.specs.declared.CoreStep.{CoreStep}
+use Rattle.core.proofs.CoreParts.{idle-cycle-is-quiet}
 
 -- ---- the latch
 
@@ -56,16 +52,6 @@ module _ (ready : Bool) (passed : ℕ) (h : not ready ≡ false) where
 
 -- ---- the two halves
 
-state-is-idle : (g : State) → isIdle g ≡ true → g ≡ Idle
-state-is-idle Idle h = refl
-state-is-idle Delay h = absurd (false≢true h)
-state-is-idle Wait2 h = absurd (false≢true h)
-state-is-idle Wait3 h = absurd (false≢true h)
-state-is-idle Front h = absurd (false≢true h)
-state-is-idle Space h = absurd (false≢true h)
-state-is-idle SyncHold h = absurd (false≢true h)
-state-is-idle Clear h = absurd (false≢true h)
-
 module _ (room empty : Bool) (x : Inputs) (memory : List ℕ) (c : Core) where
   abbrev passed : ℕ
   passed = pulsedOf x c .passed
@@ -83,15 +69,10 @@ module _ (room empty : Bool) (x : Inputs) (memory : List ℕ) (c : Core) where
       (if scalers.isSome (latchIf idle .accepted) then quiet (main.acceptedOf word (c .main)) else cycle)
       (user.stepOf (csr.wantsUserSync (c .csr)) idle empty (c .user)) c
 
-  idle-does-nothing : isIdle (c .main .state) ≡ true → cycleStepOf room empty (x .lines) c ≡ quiet (c .main)
-  idle-does-nothing h =
-      ap (λ (m : MainSequencer). main.stepOf (testsOf room empty (m .age) (x .lines) c) m) (idle-does-not-age (c .main) h)
-      ∙ idle-stays (testsOf room empty (c .main .age) (x .lines) c) (c .main) (state-is-idle (c .main .state) h)
-
   pub idle-half-is-step : isIdle (c .main .state) ≡ true
       → idleHalfOf empty (x .lines) (pulsedOf x c) memory c ≡ stepOf room empty x memory c
   unfolding idleHalfOf stepOf mainStepOf
-  idle-half-is-step h = λ j. stepIf (sym h j) (sym (idle-does-nothing h) j)
+  idle-half-is-step h = λ j. stepIf (sym h j) (sym (idle-cycle-is-quiet room empty (x .lines) c h) j)
 
   pub cycle-half-is-step : isIdle (c .main .state) ≡ false
       → cycleHalfOf room empty (x .lines) (pulsedOf x c) c ≡ stepOf room empty x memory c
