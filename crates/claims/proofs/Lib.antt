@@ -1,2 +1,3 @@
 -- Each claim, proved. Assumes nothing.
 pub mod Proved
+pub mod PartsProved

@@ -1,2 +1,3 @@
 -- What is claimed. Assumes nothing.
 pub mod Claims
+pub mod Parts

@@ -1,0 +1,136 @@
+-- What is claimed of the parts, each by itself and for every value of its types: the rules of document 01 that a part keeps
+-- whatever stands around it. proofs/PartsProved.antt proves each by citing its law.
+-- Assumes nothing.
+use Prim.Native.Nat.{ℕ, _+_, _/_, _<_, _≤_}
+use mathlib.Core.Path.{_≡_}
+use mathlib.Core.Bool.{Bool, true, false, not, _&&_}
+use mathlib.Core.List.{_++_}
+use mathlib.Core.Logic.{_↔_}
+use lib.Dec.{eqb}
+use lib.ListN.{length}
+use Rattle.bits.specs.Bits.{bitAt, oneIfOf, NoBitOutside}
+use Rattle.registers.specs.Csr as csr
+use Rattle.registers.specs.Control.{inputs}
+use Rattle.registers.specs.CsrBits.{bitAfter}
+use Rattle.registers.specs.Registers.{isValidAssign, isValidFactor, isValidTimer, factorWidth, timerWidth}
+use Rattle.registers.specs.declared.csr.Csr.{Csr}
+use Rattle.prescaler.specs.Prescaler as prescaler
+use Rattle.prescaler.specs.declared.Prescalers.{Prescalers}
+use Rattle.prescaler.proofs.PrescalerLaws.{EightPlaces}
+use Rattle.prescaler.proofs.PrescalerLoadLaws.{ScaledAt}
+use Rattle.sync.specs.SyncCounter.{isDue, afterLoadOf}
+use Rattle.sync.specs.UserSync as user
+use Rattle.sync.specs.declared.counter.SyncCounter.{SyncCounter}
+use Rattle.sync.specs.declared.user.UserSync.{UserSync}
+use Rattle.sequencer.specs.MainSequencer as main
+use Rattle.sequencer.specs.States.{isIdle}
+use Rattle.sequencer.specs.declared.main_sequencer.MainSequencer.{MainSequencer}
+use Rattle.sequencer.specs.declared.main_sequencer.Tests.{Tests}
+use Rattle.branch.specs.Branch as branch
+use Rattle.branch.specs.Slots.{wordsIn}
+use Rattle.branch.specs.declared.Branch.{Branch}
+use Rattle.branch.specs.declared.Phase.the-variants.{Strobe}
+use Rattle.branch.specs.declared.Slot.{Slot}
+
+-- ---- registers
+
+-- A factor is valid exactly where it has no bit outside its width, 20 or 14 by its input; a timer by its own width.
+abbrev pub FactorFitsItsWidth : Type 0
+FactorFitsItsWidth = (input v : ℕ) → (isValidFactor input v ≡ true) ↔ NoBitOutside (factorWidth input) v
+
+abbrev pub TimerFitsItsWidth : Type 0
+TimerFitsItsWidth = (timer v : ℕ) → (isValidTimer timer v ≡ true) ↔ NoBitOutside (timerWidth timer) v
+
+-- The assign codes 40h–4Fh, and those from 60h, name nothing.
+abbrev pub AssignDeclines40To4F : Type 0
+AssignDeclines40To4F = (v : ℕ) → 64 ≤ v → v < 80 → isValidAssign v ≡ false
+
+abbrev pub AssignDeclines60Up : Type 0
+AssignDeclines60Up = (v : ℕ) → 96 ≤ v → isValidAssign v ≡ false
+
+-- Every bit of the CSR after a write, by what the write asks.
+abbrev pub CsrBitAfterWrite : Type 0
+CsrBitAfterWrite = (v : ℕ) (c : Csr) (i : ℕ) → csr.hasBit (csr.writtenOf v c .next) i ≡ bitAfter (csr.requestedOf v) v c i
+
+-- Where a write both sets and clears a bit, it clears it.
+abbrev pub ClearWins : Type 0
+ClearWins = (v : ℕ) (c : Csr) (i : ℕ) → i < 12 → bitAt v (16 + i) ≡ true → csr.hasBit (csr.setThenClearedOf v c) i ≡ false
+
+-- ---- prescalers
+
+-- Each counted pulse is stopped, scaled or passed, and only one of them.
+abbrev pub PulseHasOneFate : Type 0
+PulseHasOneFate =
+    (runs : Bool) (pulses : ℕ) (b : Prescalers) (i : ℕ) → i < inputs
+    → oneIfOf (bitAt pulses i)
+    ≡ oneIfOf (bitAt (prescaler.stepOf runs pulses b .stopped) i)
+    + oneIfOf (bitAt (prescaler.stepOf runs pulses b .scaled) i)
+    + oneIfOf (bitAt (prescaler.stepOf runs pulses b .passed) i)
+
+-- With n pulses since the load and p of them passed: n + counter = p × (F + 1) + F and counter ≤ F, so p = n div (F + 1).
+abbrev pub PulseKeepsPassCount : Type 0
+PulseKeepsPassCount =
+    (counted runs : Bool) (n p counter factor : ℕ) → prescaler.PassCount n p counter factor
+    → prescaler.PassCount (n + oneIfOf (counted && runs))
+    (p + oneIfOf (prescaler.factsOf (prescaler.fateOf counted runs (eqb counter 0)) .isPassed))
+    (prescaler.counterAfter (prescaler.fateOf counted runs (eqb counter 0)) counter factor) factor
+
+abbrev pub PassCountDivides : Type 0
+PassCountDivides = (n p counter factor : ℕ) → prescaler.PassCount n p counter factor → p ≡ n / (factor + 1)
+
+-- After a load with a factor above 0 the first pulse does not pass.
+abbrev pub FirstPulseIsScaled : Type 0
+FirstPulseIsScaled =
+    (pulses i : ℕ) → i < prescaler.prescaledInputs → bitAt pulses i ≡ true → (input factor : ℕ) (b : Prescalers)
+    → i + 1 ≡ input → EightPlaces b → 0 < factor
+    → ScaledAt (prescaler.stepOf true pulses (prescaler.withFactorOf input factor b)) i
+
+-- ---- main sequencer
+
+-- Fail is acted on before pass, in Wait 2 and in Wait 3.
+abbrev pub FailBeatsPass2 : Type 0
+FailBeatsPass2 = (late pass class2 : Bool) → main.moveInWait2 true late pass class2 ≡ main.moveInWait2 true late false false
+
+abbrev pub FailBeatsPass3 : Type 0
+FailBeatsPass3 = (late pass : Bool) → main.moveInWait3 true late pass ≡ main.moveInWait3 true late false
+
+-- The move to Idle leaves the sequencer as it is at Idle: nothing of the event stays.
+abbrev pub ToIdleZeroes : Type 0
+ToIdleZeroes =
+    (t : Tests) (m : MainSequencer) → isIdle (m .state) ≡ false → isIdle (main.stepOf t m .next .state) ≡ true
+    → main.stepOf t m .next ≡ main.idleOf
+
+-- ---- syncs
+
+-- With an interval of 1 every event is a sync event; the load of one counts no further.
+abbrev pub IntervalOneIsDue : Type 0
+IntervalOneIsDue = (count : ℕ) → isDue true (record { interval = 1; count = count }) ≡ true
+
+abbrev pub SyncLoadKeepsCount : Type 0
+SyncLoadKeepsCount = (enabled : Bool) (c : SyncCounter) → isDue enabled c ≡ true → afterLoadOf enabled c ≡ c
+
+-- A user sync's wait ends exactly where every branch is empty.
+abbrev pub UserSyncEndsExactly : Type 0
+UserSyncEndsExactly =
+    (wanted idle empty : Bool) (u : UserSync) → user.stepOf wanted idle empty u .ended ≡ (u .waiting && empty)
+
+-- ---- branches
+
+-- What finished, followed by what is held, is what was held followed by what was loaded.
+abbrev pub BranchKeepsOrder : Type 0
+BranchKeepsOrder =
+    (acks enabled : ℕ) (b : Branch) (load : Slot) → branch.isSixBitLoad load ≡ true → branch.hasRoomFor load b ≡ true
+    → branch.WellFormedBranch b
+    → wordsIn (branch.stepOf acks enabled load b .finished) ++ branch.held (branch.stepOf acks enabled load b .next)
+    ≡ branch.held b ++ wordsIn load
+
+-- At Strobe there is a word.
+abbrev pub StrobeHasWord : Type 0
+StrobeHasWord = (b : Branch) → branch.WellFormedBranch b → b .phase ≡ Strobe → 0 < length (branch.held b)
+
+-- With no line enabled, all enabled lines are high, and all are low.
+abbrev pub NoneEnabledIsHigh : Type 0
+NoneEnabledIsHigh = (acks : ℕ) → branch.allHigh acks 0 ≡ true
+
+abbrev pub NoneEnabledIsLow : Type 0
+NoneEnabledIsLow = (acks : ℕ) → branch.allLow acks 0 ≡ true
