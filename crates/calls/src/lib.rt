@@ -2,25 +2,22 @@
 // and hands back the next record with its answer. No call has a `requires`; each contract is one equality with a
 // definition of specs/Calls.antt, for every record and every memory.
 ghost use mathlib.Core.Path.{_≡_};
-ghost use Rattle.branches.specs.ReadoutFields.{withRoc};
-ghost use Rattle.supervisor.specs.Supervisor.{withReadout};
-ghost use Rattle.calls.specs.Registers.{afterCsrOf, csrWrittenOf, coreWrittenOf, writtenOf, storedOf};
 ghost use Rattle.calls.specs.Calls.{markedOf, refuse, refuseRead, refuseTick, writeRegisterOf, readRegisterOf};
 ghost use Rattle.calls.specs.Calls.{writeMemoryOf, memoryAfterOf, readMemoryOf, tickOf};
 use branch::Slot;
 use branches::Side;
-use core::Core;
 use core::Masks;
 use core::lines::Inputs;
-use registers::control::Control;
 use registers::csr::Csr;
-use registers::csr::CsrWrite;
-use registers::csr::Request;
 use registers::register::Register;
 use sequencer::main_sequencer::Outcome;
 use supervisor::Answer;
 use supervisor::Supervisor;
-use sync::counter::SyncCounter;
+
+mod access;
+
+use access::stored;
+use access::written;
 
 // [Memory.1]
 pub const MEMORY_PLACES: usize = 4096;
@@ -132,118 +129,6 @@ fn wide(word: u16) -> u32
 }
 
 // ---- register calls
-
-// [CSRWrite.1] [CSRWrite.2d] by what the write asks of the record
-fn after_csr(s: Supervisor, w: CsrWrite) -> Supervisor
-    ensures { λ r. ⌜ r ≡ afterCsrOf (w .request) w s ⌝ }
-{
-    let request = w.request;
-    let csr = w.next;
-    let mut core = s.core;
-    core.csr = csr;
-    match request {
-        Request::Initialize => s.initialized(),
-        Request::Reset => s.with_core(core).reset(),
-        Request::Nothing => s.with_core(core),
-    }
-}
-
-fn csr_written(s: Supervisor, value: u32) -> Supervisor
-    ensures { λ r. ⌜ r ≡ csrWrittenOf value s ⌝ }
-{
-    let csr = s.core.csr;
-    after_csr(s, csr.written(value))
-}
-
-// [Registers.2] [Registers.3] the registers of the core but for the CSR
-fn core_written(core: Core, register: Register, value: u32) -> Core
-    ensures { λ r. ⌜ r ≡ coreWrittenOf register value core ⌝ }
-{
-    let mut next = core;
-    match register {
-        Register::Csr => core,
-        Register::Control => {
-            let control = Control { word: value };
-            next.control = control;
-            next
-        }
-        Register::Factor(input) => {
-            let prescalers = core.prescalers.with_factor(input, value);
-            next.prescalers = prescalers;
-            next
-        }
-        Register::RocEnable => core,
-        Register::Interval => {
-            let sync = SyncCounter {
-                interval: (value % 65536) as u16,
-                count: core.sync.count,
-            };
-            next.sync = sync;
-            next
-        }
-        Register::Timer(n) => {
-            let timers = core.timers.written(n, value);
-            next.timers = timers;
-            next
-        }
-        Register::Scaler(n) => {
-            let scalers = core.scalers.zeroed(n);
-            next.scalers = scalers;
-            next
-        }
-        Register::Assign => {
-            let mut scalers = core.scalers;
-            scalers.assign = value;
-            next.scalers = scalers;
-            next
-        }
-        Register::Absent => core,
-    }
-}
-
-fn roc_written(s: Supervisor, value: u32) -> Supervisor
-    ensures { λ r. ⌜ r ≡ withReadout (withRoc value (s .readout)) s ⌝ }
-{
-    let mut readout = s.readout;
-    readout.roc = value;
-    s.with_readout(readout)
-}
-
-// A register write that is carried out.
-fn written(s: Supervisor, register: Register, value: u32) -> Supervisor
-    ensures { λ r. ⌜ r ≡ writtenOf register value s ⌝ }
-{
-    let core = s.core;
-    match register {
-        Register::Csr => csr_written(s, value),
-        Register::Control => s.with_core(core_written(core, register, value)),
-        Register::Factor(_) => s.with_core(core_written(core, register, value)),
-        Register::RocEnable => roc_written(s, value),
-        Register::Interval => s.with_core(core_written(core, register, value)),
-        Register::Timer(_) => s.with_core(core_written(core, register, value)),
-        Register::Scaler(_) => s.with_core(core_written(core, register, value)),
-        Register::Assign => s.with_core(core_written(core, register, value)),
-        Register::Absent => s,
-    }
-}
-
-// [Declines.3b] the stored value
-fn stored(s: Supervisor, register: Register) -> u32
-    ensures { λ r. ⌜ r ≡ storedOf register s ⌝ }
-{
-    let core = s.core;
-    match register {
-        Register::Csr => core.csr.word,
-        Register::Control => core.control.word,
-        Register::Factor(input) => core.prescalers.factor(input),
-        Register::RocEnable => s.readout.roc,
-        Register::Interval => core.sync.interval as u32,
-        Register::Timer(n) => core.timers.stored(n),
-        Register::Scaler(n) => core.scalers.stored(n),
-        Register::Assign => core.scalers.assign,
-        Register::Absent => 0,
-    }
-}
 
 // [Declines.2a] [Declines.2b] [Declines.2c] [Declines.2d]
 pub fn write_register(s: Supervisor, number: u32, value: u32) -> WriteDone

@@ -1,11 +1,10 @@
 // The core of the supervisor: all of the record but the branches (document 01, "The tick"). It sees the branches
 // through two facts, every one empty and every one below its depth. The definitions are in specs/Core.antt.
 ghost use mathlib.Core.Path.{_≡_};
-ghost use Rattle.sequencer.specs.MemoryWord.{isOkWord};
-ghost use Rattle.core.specs.Core.{freshOf, resetOf, isRunning, pulsedOf, isUninhibited, isOpenOf, wordAtOf};
-ghost use Rattle.core.specs.Core.{latchOf, testsOf, cycleStepOf, statusOf, csrAfterOf, syncAfterOf, outcomeOf};
-ghost use Rattle.core.specs.Core.{signalsOf, masksOf, settledOf, stepOf, linesOutOf, isActiveOf, allowsEightOf, isSoundOf};
-ghost use Rattle.core.specs.CoreHalves.{idleStepOf, idleLatchOf, idleHalfOf, cycleHalfOf};
+ghost use Rattle.core.specs.Core.{freshOf, resetOf, pulsedOf, isOpenOf, wordAtOf};
+ghost use Rattle.core.specs.Core.{testsOf};
+ghost use Rattle.core.specs.Core.{settledOf, stepOf, linesOutOf, isActiveOf, allowsEightOf, isSoundOf};
+ghost use Rattle.core.specs.CoreHalves.{idleStepOf, idleHalfOf, cycleHalfOf};
 use prescaler::Prescaled;
 use prescaler::Prescalers;
 use registers::control::Control;
@@ -13,20 +12,26 @@ use registers::csr::Csr;
 use registers::register::is_valid_assign;
 use registers::register::is_valid_control;
 use scalers::Scalers;
-use scalers::Signals;
 use sequencer::main_sequencer::MainSequencer;
 use sequencer::main_sequencer::MainStep;
 use sequencer::main_sequencer::Outcome;
 use sequencer::main_sequencer::Tests;
 use sequencer::main_sequencer::quiet_step;
-use sequencer::memory_word::is_ok_word;
 use sync::counter::SyncCounter;
 use sync::user::UserStep;
 use sync::user::UserSync;
 use timers::Timers;
 
+mod effects;
 pub mod lines;
 
+use effects::csr_after;
+use effects::latched_pulses;
+use effects::masks_of;
+use effects::outcome_after;
+use effects::signals_of;
+use effects::sync_after;
+use effects::word_at;
 use lines::Inputs;
 use lines::Lines;
 
@@ -65,115 +70,6 @@ pub struct CoreStep {
     pub next: Core,
     pub masks: Masks,
     pub outcome: Outcome,
-}
-
-// [Memory.1] the word at the place of a pattern, 0 past the memory's end
-fn word_at(memory: &[u16], pattern: u32) -> u16
-    ensures { λ r. ⌜ r ≡ wordAtOf (now (memory .entry)) pattern ⌝ }
-{
-    let place = pattern as usize;
-    if place < memory.len() {
-        return memory[place];
-    }
-    0
-}
-
-// [Ready.2] [Ready.4] [Ready.5] with none passed the memory is not read
-fn latched_pulses(ready: bool, passed: u32, memory: &[u16]) -> Latch
-    ensures { λ r. ⌜ r ≡ latchOf ready (isOkWord (wordAtOf (now (memory .entry)) passed)) passed ⌝ }
-{
-    if !ready {
-        return Latch {
-            lost: passed,
-            rejected: 0,
-            accepted: 0,
-        };
-    }
-    if passed == 0 {
-        return Latch {
-            lost: 0,
-            rejected: 0,
-            accepted: 0,
-        };
-    }
-    if is_ok_word(word_at(memory, passed)) {
-        return Latch {
-            lost: 0,
-            rejected: 0,
-            accepted: passed,
-        };
-    }
-    Latch {
-        lost: 0,
-        rejected: passed,
-        accepted: 0,
-    }
-}
-
-// [Ready.6] [Main.6] [Main.11] status bits 16, 17 and 18
-fn status(inhibit: bool, late: bool, sync: bool) -> u32
-    ensures { λ r. ⌜ r ≡ statusOf inhibit late sync ⌝ }
-{
-    bits::one_if(inhibit) * 65536 + bits::one_if(late) * 131072 + bits::one_if(sync) * 262144
-}
-
-fn csr_after(csr: Csr, lines: Lines, m: MainStep, u: UserStep) -> Csr
-    ensures { λ r. ⌜ r ≡ csrAfterOf lines m u csr ⌝ }
-{
-    let marks = status(lines.has_inhibit(), m.late, m.sync | u.tag);
-    let held = csr.sync_hold_ended_if(m.ended);
-    let waited = held.user_sync_ended_if(u.ended);
-    waited.marked(marks)
-}
-
-fn sync_after(sync: SyncCounter, enabled: bool, m: MainStep, u: UserStep) -> SyncCounter
-    ensures { λ r. ⌜ r ≡ syncAfterOf enabled m u sync ⌝ }
-{
-    let outcome = m.outcome;
-    if m.ended | u.ended {
-        return sync.zeroed();
-    }
-    if outcome.is_event() {
-        return sync.after_load(enabled);
-    }
-    sync
-}
-
-fn outcome_after(m: MainStep, u: UserStep) -> Outcome
-    ensures { λ r. ⌜ r ≡ outcomeOf m u ⌝ }
-{
-    if u.tag {
-        return Outcome::Tag(UserSync::TAG);
-    }
-    m.outcome
-}
-
-fn signals_of(passed: u32, latch: Latch, m: MainStep, u: UserStep) -> Signals
-    ensures { λ r. ⌜ r ≡ signalsOf passed latch m u ⌝ }
-{
-    let outcome = m.outcome;
-    Signals {
-        passed,
-        rejected: latch.rejected,
-        accepted: latch.accepted,
-        event: outcome.is_event(),
-        failed2: m.failed2,
-        failed3: m.failed3,
-        late: m.late,
-        sync: m.sync | u.tag,
-    }
-}
-
-fn masks_of(p: Prescaled, latch: Latch) -> Masks
-    ensures { λ r. ⌜ r ≡ masksOf p latch ⌝ }
-{
-    Masks {
-        stopped: p.stopped,
-        scaled: p.scaled,
-        lost: latch.lost,
-        rejected: latch.rejected,
-        accepted: latch.accepted,
-    }
 }
 
 impl Core {

@@ -1,9 +1,9 @@
--- `calls::csr_written` meets its contract: the CSR's own write, then what it asks.
+-- `calls::access::csr_written` meets its contract: the CSR's own write, then what it asks.
 -- Written by tools/prove.py; no answer was changed by hand. Assumes nothing.
 use Rattle.calls.specs.Registers.{csrWrittenOf}
 use borrow.Author.Needs.{needs}
-use Rattle.calls.proofs.csr_written.Statement.{statement}
-use Rattle.calls.proofs.csr_written.Tie as tie
+use Rattle.calls.proofs.access.csr_written.Statement.{statement}
+use Rattle.calls.proofs.access.csr_written.Tie as tie
 
 written-requires : tie.Need-written-requires
 written-requires c κs = search needs

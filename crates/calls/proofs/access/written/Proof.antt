@@ -1,9 +1,9 @@
--- `calls::written` meets its contract: one arm for each register.
+-- `calls::access::written` meets its contract: one arm for each register.
 -- Written by tools/prove.py; no answer was changed by hand. Assumes nothing.
 use Rattle.calls.specs.Registers.{writtenOf}
 use borrow.Author.Needs.{needs}
-use Rattle.calls.proofs.written.Statement.{statement}
-use Rattle.calls.proofs.written.Tie as tie
+use Rattle.calls.proofs.access.written.Statement.{statement}
+use Rattle.calls.proofs.access.written.Tie as tie
 
 enum-told : tie.Need-enum-told
 enum-told c = search needs

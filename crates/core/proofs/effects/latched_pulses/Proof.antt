@@ -1,4 +1,4 @@
--- `core::latched_pulses` meets its contract: one return for each of its tests: not ready, none passed, OK or not.
+-- `core::effects::latched_pulses` meets its contract: one return for each of its tests: not ready, none passed, OK or not.
 -- Written by tools/prove.py; the answers to `returns` were written by hand. Assumes nothing.
 use borrow.Author.Tests.{eq-eqb, ne-eqb}
 use mathlib.Core.Path.{sym, ap, _∙_}
@@ -6,8 +6,8 @@ use Rattle.sequencer.specs.MemoryWord.{isOkWord}
 use Rattle.core.specs.Core.{wordAtOf}
 use Rattle.core.proofs.CoreChoices.{latch-not-ready, latch-none, latch-ok, latch-not-ok}
 use borrow.Author.Needs.{needs}
-use Rattle.core.proofs.latched_pulses.Statement.{statement}
-use Rattle.core.proofs.latched_pulses.Tie as tie
+use Rattle.core.proofs.effects.latched_pulses.Statement.{statement}
+use Rattle.core.proofs.effects.latched_pulses.Tie as tie
 
 returns : tie.Need-returns
 returns c =

@@ -1,8 +1,8 @@
--- `calls::after_csr` meets its contract: one arm for each request.
+-- `calls::access::after_csr` meets its contract: one arm for each request.
 -- Written by tools/prove.py; no answer was changed by hand. Assumes nothing.
 use borrow.Author.Needs.{needs}
-use Rattle.calls.proofs.after_csr.Statement.{statement}
-use Rattle.calls.proofs.after_csr.Tie as tie
+use Rattle.calls.proofs.access.after_csr.Statement.{statement}
+use Rattle.calls.proofs.access.after_csr.Tie as tie
 
 enum-told : tie.Need-enum-told
 enum-told c = search needs

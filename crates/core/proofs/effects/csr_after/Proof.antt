@@ -1,9 +1,9 @@
--- `core::csr_after` meets its contract: three changes in a row, each as its call ensures.
+-- `core::effects::csr_after` meets its contract: three changes in a row, each as its call ensures.
 -- Written by tools/prove.py; no answer was changed by hand. Assumes nothing.
 use Rattle.core.specs.Core.{csrAfterOf}
 use borrow.Author.Needs.{needs}
-use Rattle.core.proofs.csr_after.Statement.{statement}
-use Rattle.core.proofs.csr_after.Tie as tie
+use Rattle.core.proofs.effects.csr_after.Statement.{statement}
+use Rattle.core.proofs.effects.csr_after.Tie as tie
 
 has-inhibit-requires : tie.Need-has-inhibit-requires
 has-inhibit-requires c κs = search needs

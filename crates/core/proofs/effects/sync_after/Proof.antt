@@ -1,9 +1,9 @@
--- `core::sync_after` meets its contract: one return for each choice.
+-- `core::effects::sync_after` meets its contract: one return for each choice.
 -- Written by tools/prove.py; no answer was changed by hand. Assumes nothing.
 use Rattle.core.specs.Core.{syncAfterOf}
 use borrow.Author.Needs.{needs}
-use Rattle.core.proofs.sync_after.Statement.{statement}
-use Rattle.core.proofs.sync_after.Tie as tie
+use Rattle.core.proofs.effects.sync_after.Statement.{statement}
+use Rattle.core.proofs.effects.sync_after.Tie as tie
 
 zeroed-requires : tie.Need-zeroed-requires
 zeroed-requires c κs = search needs

@@ -1,10 +1,10 @@
--- `core::word_at` meets its contract: within the memory it is the word there, past its end 0.
+-- `core::effects::word_at` meets its contract: within the memory it is the word there, past its end 0.
 -- Written by tools/prove.py; the answers to `returns` were written by hand. Assumes nothing.
 use mathlib.Core.Path.{sym}
 use lib.ListN.{List·getD-eq-default}
 use borrow.Author.Needs.{needs}
-use Rattle.core.proofs.word_at.Statement.{statement}
-use Rattle.core.proofs.word_at.Tie as tie
+use Rattle.core.proofs.effects.word_at.Statement.{statement}
+use Rattle.core.proofs.effects.word_at.Tie as tie
 
 mul-result : tie.Need-mul-result
 mul-result c = search needs

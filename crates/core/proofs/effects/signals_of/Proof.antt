@@ -1,8 +1,8 @@
--- `core::signals_of` meets its contract: the literal is the definition, field by field.
+-- `core::effects::signals_of` meets its contract: the literal is the definition, field by field.
 -- Written by tools/prove.py; no answer was changed by hand. Assumes nothing.
 use borrow.Author.Needs.{needs}
-use Rattle.core.proofs.signals_of.Statement.{statement}
-use Rattle.core.proofs.signals_of.Tie as tie
+use Rattle.core.proofs.effects.signals_of.Statement.{statement}
+use Rattle.core.proofs.effects.signals_of.Tie as tie
 
 is-event-requires : tie.Need-is-event-requires
 is-event-requires c κs = search needs

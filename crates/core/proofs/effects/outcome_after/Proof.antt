@@ -1,8 +1,8 @@
--- `core::outcome_after` meets its contract: one return for each choice.
+-- `core::effects::outcome_after` meets its contract: one return for each choice.
 -- Written by tools/prove.py; no answer was changed by hand. Assumes nothing.
 use borrow.Author.Needs.{needs}
-use Rattle.core.proofs.outcome_after.Statement.{statement}
-use Rattle.core.proofs.outcome_after.Tie as tie
+use Rattle.core.proofs.effects.outcome_after.Statement.{statement}
+use Rattle.core.proofs.effects.outcome_after.Tie as tie
 
 returns : tie.Need-returns
 returns c = rw (c .if1 .taken)
