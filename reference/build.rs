@@ -1,0 +1,48 @@
+//! Names the archives of the proved library to the linker, and writes the faulty copy of the model for `compare`.
+
+use std::path::PathBuf;
+
+include!("src/bin/compare/fault_list.rs");
+
+fn main() {
+    println!("cargo:rerun-if-changed=build.rs");
+    println!("cargo:rerun-if-changed=src/machine.rs");
+    println!("cargo:rerun-if-changed=src/bin/compare/fault_list.rs");
+    if std::env::var_os("CARGO_FEATURE_PROVED").is_none() {
+        return;
+    }
+    let here = PathBuf::from(std::env::var_os("CARGO_MANIFEST_DIR").expect("cargo sets it"));
+    let archives = here.join("../target/staticlib");
+    for (bin, name) in [("compare", "harness"), ("bench", "pace")] {
+        let archive = archives.join(format!("lib{name}.a"));
+        println!("cargo:rerun-if-changed={}", archive.display());
+        println!("cargo:rustc-link-arg-bin={bin}={}", archive.display());
+    }
+
+    let source = std::fs::read_to_string(here.join("src/machine.rs")).expect("src/machine.rs");
+    let copy = PathBuf::from(std::env::var_os("OUT_DIR").expect("cargo sets it")).join("faulty.rs");
+    std::fs::write(copy, faulty(&source)).expect("OUT_DIR");
+}
+
+/// The model's source with every fault at its place, behind a test of the switch.
+fn faulty(source: &str) -> String {
+    // Inner comments cannot stand in an included file.
+    let mut text: String =
+        source.lines().filter(|line| !line.starts_with("//!")).map(|line| format!("{line}\n")).collect();
+    let mut done: Vec<&str> = Vec::new();
+    for fault in FAULTS {
+        if done.contains(&fault.right) {
+            continue;
+        }
+        done.push(fault.right);
+        assert_eq!(source.matches(fault.right).count(), 1, "the place of a fault: {}", fault.right);
+        let wrong: String = FAULTS
+            .iter()
+            .enumerate()
+            .filter(|(_, other)| other.right == fault.right)
+            .map(|(number, other)| format!("if crate::faults::is_on({}) {{ {} }} else ", number + 1, other.wrong))
+            .collect();
+        text = text.replacen(fault.right, &format!("({wrong}{{ {} }})", fault.right), 1);
+    }
+    text
+}

@@ -1,0 +1,302 @@
+//! What the compared calls met: every state, decline, outcome, assignment and clause of the spoiled rule.
+
+use crate::numbers::*;
+use reference::machine::csr;
+
+const STATES: [&str; 8] = ["Idle", "Delay", "Wait 2", "Wait 3", "Front", "Space", "Sync hold", "Clear"];
+const PHASES: [&str; 3] = ["Rest", "Strobe", "Drop"];
+const OUTCOMES: [&str; 7] = ["none", "cleared", "event", "event, sync", "event, late", "event, sync and late", "tag"];
+const MASKS: [&str; 5] = ["stopped", "scaled", "lost", "rejected", "accepted"];
+const ASSIGNS: [&str; 20] = [
+    "00", "01", "02", "03", "04", "05", "06", "07", "08", "09", "0A", "0B", "0C", "0D", "0E", "0F", "1x", "2x", "3x",
+    "5x",
+];
+/// The clauses of the spoiled rule that a record of both machines can break.
+pub const CLAUSES: [&str; 16] = [
+    "CSR bit",
+    "control bit",
+    "factor of inputs 1-4",
+    "factor of inputs 5-8",
+    "assign code",
+    "stored code over Fh",
+    "Wait 2 in another class",
+    "Strobe without a word",
+    "counter above its factor",
+    "word over 3Fh",
+    "queue above 8",
+    "queue above 7",
+    "unused place not 0",
+    "sync count over 65,534",
+    "age over 131,070",
+    "cycle while a user sync waits",
+];
+const EVENTS: [&str; 15] = [
+    "RESET carried out",
+    "INITIALIZE carried out",
+    "GO rises in a write",
+    "status bits cleared by bit 31",
+    "late fail of level 2",
+    "late fail of level 3",
+    "fail and pass together",
+    "Sync hold ends with a pause",
+    "user sync ends with a pause",
+    "user sync ends without a pause",
+    "tick at full depth in Space",
+    "tick under a ROC lock in Space",
+    "tick at the age limit",
+    "scaler runs on to 0",
+    "write to 17-19 while active",
+];
+
+pub struct Counts {
+    pub calls: u64,
+    pub lists: u64,
+    pub accounts: u64,
+    pub whole: u64,
+    replies: [[u64; 6]; 6],
+    moves: [[u64; 8]; 8],
+    user_waits: u64,
+    outcomes: [u64; 7],
+    masks: [u64; 5],
+    assigns: [[u64; 2]; 20],
+    phases: [u64; 3],
+    held: [u64; 9],
+    events: [u64; 15],
+    resets: [[u64; 9]; 2],
+    clauses: [[u64; 2]; 16],
+}
+
+impl Counts {
+    pub fn new() -> Counts {
+        Counts {
+            calls: 0,
+            lists: 0,
+            accounts: 0,
+            whole: 0,
+            replies: [[0; 6]; 6],
+            moves: [[0; 8]; 8],
+            user_waits: 0,
+            outcomes: [0; 7],
+            masks: [0; 5],
+            assigns: [[0; 2]; 20],
+            phases: [0; 3],
+            held: [0; 9],
+            events: [0; 15],
+            resets: [[0; 9]; 2],
+            clauses: [[0; 2]; 16],
+        }
+    }
+
+    /// A call that both machines answered alike.
+    pub fn add(&mut self, before: &Record, call: Call, reply: &Reply, after: &Record) {
+        self.calls += 1;
+        self.replies[call[0] as usize][reply[0] as usize] += 1;
+        if reply[0] == 1 {
+            let broken = broken_clauses(before);
+            let together = usize::from(broken.iter().filter(|&&is| is).count() > 1);
+            for (count, is) in self.clauses.iter_mut().zip(broken) {
+                count[together] += u64::from(is);
+            }
+        }
+        if reply[0] != 0 {
+            return;
+        }
+        match call[0] {
+            WRITE_REGISTER => self.add_write(before, call, after),
+            TICK => self.add_tick(before, call, reply, after),
+            _ => {}
+        }
+    }
+
+    fn add_write(&mut self, before: &Record, call: Call, after: &Record) {
+        let value = call[2] as u32;
+        let place = if before[WAITING] == 1 { 8 } else { before[STATE] as usize };
+        if call[1] >= 17 && is_active(before) {
+            self.events[14] += 1;
+        }
+        if call[1] != 0 {
+            return;
+        }
+        if value & csr::INITIALIZE != 0 {
+            self.events[1] += 1;
+            self.resets[1][place] += 1;
+            return;
+        }
+        if value & csr::RESET != 0 {
+            self.events[0] += 1;
+            self.resets[0][place] += 1;
+        }
+        self.events[2] += u64::from(after[0] & !before[0] & 1 != 0);
+        let status = u64::from(csr::STATUS);
+        self.events[3] += u64::from(value & csr::CLEAR_STATUS != 0 && before[0] & status != 0);
+    }
+
+    fn add_tick(&mut self, before: &Record, call: Call, reply: &Reply, after: &Record) {
+        let state = before[STATE] as usize;
+        self.moves[state][after[STATE] as usize] += 1;
+        self.user_waits += before[WAITING];
+        let outcome = match reply[5] >> 8 {
+            2 => 2 + (reply[5] >> 4 & 3) as usize,
+            3 => 6,
+            other => other as usize,
+        };
+        self.outcomes[outcome] += 1;
+        let masks = [reply[2] & 0xFFF, reply[2] >> 32, reply[3] & 0xFFF, reply[3] >> 32, reply[4] & 0xFFF];
+        for (count, mask) in self.masks.iter_mut().zip(masks) {
+            *count += u64::from(mask.count_ones());
+        }
+        let assign = match before[19] {
+            code @ 0..=0x0F => code as usize,
+            code @ 0x10..=0x3F => 15 + (code >> 4) as usize,
+            _ => 19,
+        };
+        let counted = usize::from(before[18] != after[18]);
+        self.assigns[assign][counted] += 1;
+        for b in 0..4 {
+            self.phases[after[BRANCH + 3 * b + 2] as usize] += 1;
+            self.held[after[BRANCH + 3 * b + 1] as usize] += 1;
+        }
+        let line = |bit: u32| call[2] >> bit & 1 == 1;
+        let dropped = |bits: u32| (before[0] & !after[0]) as u32 & bits == bits;
+        let late = after[LATE] > before[LATE];
+        let used = |b: usize| before[BRANCH + 3 * b + 1];
+        let locks = u64::from(csr::ROC_LOCK | csr::ROC_LOCK_BRANCH_4);
+        let is = [
+            (4, state == 2 && late),
+            (5, state == 3 && late),
+            (6, (state == 2 && line(1) && line(2)) || (state == 3 && line(3) && line(4))),
+            (7, state == 6 && dropped(csr::GO | csr::PAUSE_ON_NEXT_SYNC)),
+            (8, before[WAITING] == 1 && dropped(csr::GO | csr::PAUSE_AND_SYNC)),
+            (9, before[WAITING] == 1 && after[WAITING] == 0 && !dropped(csr::PAUSE_AND_SYNC)),
+            (10, state == 5 && (0..4).any(|b| used(b) == 8)),
+            (11, state == 5 && before[0] & locks != 0 && (0..4).any(|b| used(b) > 0)),
+            (12, before[AGE] == 131_070 && after[AGE] == 131_070),
+            (13, (before[17] > after[17]) || (before[18] > after[18])),
+        ];
+        for (event, is) in is {
+            self.events[event] += u64::from(is);
+        }
+    }
+
+    /// Prints the table; gives what was never met.
+    pub fn print(&self) -> Vec<String> {
+        let mut missing = Vec::new();
+        let mut row = |what: String, count: u64| {
+            if count == 0 {
+                missing.push(what.clone());
+            }
+            println!("  {what:<58} {count:>12}");
+        };
+        println!("Replies");
+        for (kind, name) in KINDS.iter().enumerate() {
+            for decline in 0..6 {
+                let listed = match kind {
+                    0 => [0, 1, 3, 4, 5].contains(&decline),
+                    1 => [0, 1, 3].contains(&decline),
+                    2 | 3 => decline < 5,
+                    4 => [0, 1, 2, 5].contains(&decline),
+                    _ => decline == 0,
+                };
+                if listed {
+                    let what = if decline == 0 { "carried out".into() } else { format!("declined {decline}") };
+                    row(format!("{name}, {what}"), self.replies[kind][decline]);
+                }
+            }
+        }
+        println!("Main's states, in ticks carried out");
+        for (state, name) in STATES.iter().enumerate() {
+            row((*name).into(), self.moves[state].iter().sum());
+        }
+        row("user sync waiting".into(), self.user_waits);
+        println!("Main's moves");
+        for (from, to) in [
+            (0, 1),
+            (0, 2),
+            (1, 4),
+            (2, 1),
+            (2, 3),
+            (2, 4),
+            (2, 7),
+            (3, 4),
+            (3, 7),
+            (4, 5),
+            (4, 6),
+            (5, 0),
+            (6, 0),
+            (7, 0),
+        ] {
+            row(format!("{} to {}", STATES[from], STATES[to]), self.moves[from][to]);
+        }
+        println!("Outcomes");
+        for (name, count) in OUTCOMES.iter().zip(self.outcomes) {
+            row((*name).into(), count);
+        }
+        println!("Pulses, by mask");
+        for (name, count) in MASKS.iter().zip(self.masks) {
+            row((*name).into(), count);
+        }
+        println!("Scaler 1, ticks that it counted, by assignment");
+        for (name, count) in ASSIGNS.iter().zip(self.assigns) {
+            row(format!("assign {name}"), count[1]);
+            row(format!("assign {name}, not counted"), count[0]);
+        }
+        println!("Branches after a tick");
+        for (name, count) in PHASES.iter().zip(self.phases) {
+            row((*name).into(), count);
+        }
+        for (held, count) in self.held.iter().enumerate() {
+            row(format!("{held} words held"), *count);
+        }
+        println!("Events");
+        for (name, count) in EVENTS.iter().zip(self.events) {
+            row((*name).into(), count);
+        }
+        for (name, counts) in ["RESET", "INITIALIZE"].iter().zip(self.resets) {
+            for (state, count) in STATES.iter().chain(&["a user sync's wait"]).zip(counts) {
+                row(format!("{name} in {state}"), count);
+            }
+        }
+        println!("Clauses of the spoiled rule");
+        for (name, count) in CLAUSES.iter().zip(self.clauses) {
+            row(format!("{name}, alone"), count[0]);
+            row(format!("{name}, with others"), count[1]);
+        }
+        missing
+    }
+}
+
+fn is_active(n: &Record) -> bool {
+    let wanted = n[0] & 0xC != 0 && n[0] & 0x10 != 0;
+    let busy = (0..4).any(|b| n[BRANCH + 3 * b + 1] != 0 || n[BRANCH + 3 * b + 2] != 0);
+    n[0] & 1 != 0 || n[STATE] != 0 || n[WAITING] == 1 || wanted || busy
+}
+
+/// The clauses once more, only to count them.
+fn broken_clauses(n: &Record) -> [bool; 16] {
+    let branch = |b: usize| (n[BRANCH + 3 * b].to_le_bytes(), n[BRANCH + 3 * b + 1], n[BRANCH + 3 * b + 2]);
+    let any = |is: &dyn Fn([u8; 8], u64, u64) -> bool| {
+        (0..4).any(|b| {
+            let (words, used, phase) = branch(b);
+            is(words, used, phase)
+        })
+    };
+    let loaded = n[STATE] == 5 || n[STATE] == 6 || n[WAITING] == 1;
+    [
+        n[0] & !0x1F_0FFF != 0,
+        n[1] & !0x9FFF != 0,
+        (0..4).any(|i| n[2 + i] > 0xF_FFFF),
+        (4..8).any(|i| n[2 + i] > 0x3FFF),
+        !(n[19] <= 0x3F || (0x50..=0x5F).contains(&n[19])),
+        n[CODE] > 15,
+        n[STATE] == 2 && n[CLASS] != 2 && n[CLASS] != 3,
+        any(&|_, used, phase| phase == 1 && used == 0),
+        (0..8).any(|i| n[COUNTERS + i] > n[2 + i]),
+        any(&|words, used, _| words.iter().take(used as usize).any(|&word| word > 0x3F)),
+        any(&|_, used, _| used > 8),
+        any(&|_, used, _| used == 8) && !loaded,
+        any(&|words, used, _| words.iter().skip(used as usize).any(|&word| word != 0)),
+        n[SYNC_COUNT] > 65_534,
+        n[AGE] > 131_070,
+        n[WAITING] == 1 && n[STATE] != 0,
+    ]
+}

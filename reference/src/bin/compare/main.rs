@@ -1,0 +1,309 @@
+//! Compares the proved library with the model: random lists of calls, every reply, the record after every call, and
+//! the memory. See docs/PERFORMANCE.md for what is covered.
+
+mod counts;
+mod faults;
+#[allow(dead_code, unused_parens)]
+mod faulty {
+    include!(concat!(env!("OUT_DIR"), "/faulty.rs"));
+}
+mod lists;
+mod numbers;
+mod random;
+mod scripts;
+
+use counts::Counts;
+use lists::{Maker, Step};
+use numbers::*;
+use reference::account::Account;
+use std::process::ExitCode;
+
+const DEFAULT_SEED: u64 = 1;
+const DEFAULT_CALLS: u64 = 20_000_000;
+
+/// A list as it was run, and where the machines differ after its last step.
+struct Difference {
+    memories: Vec<Vec<u16>>,
+    steps: Vec<Step>,
+    says: String,
+}
+
+/// The two machines beside each other.
+struct Pair {
+    proved: Record,
+    model: Record,
+    memories: Vec<Vec<u16>>,
+    model_memories: Vec<Vec<u16>>,
+    /// From fresh, as long as only calls change the record.
+    account: Option<Account>,
+}
+
+impl Pair {
+    fn new(memories: &[Vec<u16>]) -> Pair {
+        Pair {
+            proved: FRESH,
+            model: FRESH,
+            memories: memories.to_vec(),
+            model_memories: memories.to_vec(),
+            account: Some(Account::new()),
+        }
+    }
+
+    /// One step on both; says where they differ.
+    fn step<M: Machine>(&mut self, step: &Step) -> Result<Option<Reply>, String> {
+        let (memory, call) = match step {
+            Step::Put(record) => {
+                self.proved = **record;
+                self.model = **record;
+                self.account = None;
+                return Ok(None);
+            }
+            Step::Call { memory, call } => (*memory, *call),
+        };
+        let before = self.proved;
+        let mut replies = [[0; 8]];
+        proved(&mut self.proved, &mut self.memories[memory], &[call], &mut replies);
+        let [reply] = replies;
+        let other = M::call(&mut self.model, &mut self.model_memories[memory], call);
+        if reply != other {
+            return Err(format!("replies: proved {reply:X?}, model {other:X?}"));
+        }
+        if self.proved != self.model {
+            let fields: Vec<String> = (0..RECORD)
+                .filter(|&i| self.proved[i] != self.model[i])
+                .map(|i| format!("{}: proved {:X}, model {:X}", FIELDS[i], self.proved[i], self.model[i]))
+                .collect();
+            return Err(format!("records: {}", fields.join("; ")));
+        }
+        if self.memories[memory] != self.model_memories[memory] {
+            return Err("memories".into());
+        }
+        // [Declines.1b] a record that is spoiled stays as it is, and so does the record of a read that is carried out.
+        if reply[0] == 1 && self.proved != before {
+            return Err("a declined call changed the record on both sides".into());
+        }
+        self.keep_account(call, &reply)?;
+        Ok(Some(reply))
+    }
+
+    fn keep_account(&mut self, call: Call, reply: &Reply) -> Result<(), String> {
+        let Some(account) = &mut self.account else { return Ok(()) };
+        let done = if reply[0] == 0 { Ok(()) } else { Err(reply[0] as u8) };
+        match call[0] {
+            WRITE_REGISTER => account.write_register(call[1] as u32, call[2] as u32, done),
+            TICK => account.tick(call[1] as u32, call[2] as u32, &answer_of(reply)),
+            MAKE_FRESH => *account = Account::new(),
+            _ => {}
+        }
+        account.check(&Model::of(&self.proved)).map_err(|says| format!("the account: {says}"))
+    }
+}
+
+/// Makes and runs the list of a seed.
+fn run_list<M: Machine>(seed: u64, counts: &mut Counts) -> Result<(), Difference> {
+    let mut maker = Maker::new(seed);
+    let memories = maker.memories();
+    let mut pair = Pair::new(&memories);
+    let mut steps = Vec::with_capacity(maker.length);
+    let mut replies = Vec::with_capacity(maker.length);
+    for _ in 0..maker.length {
+        let step = maker.step(&pair.proved);
+        let before = pair.proved;
+        steps.push(step);
+        let step = steps.last().expect("one was pushed");
+        match pair.step::<M>(step) {
+            Err(says) => return Err(Difference { memories, steps, says }),
+            Ok(None) => {}
+            Ok(Some(reply)) => {
+                let Step::Call { call, .. } = *step else { continue };
+                counts.add(&before, call, &reply, &pair.proved);
+                counts.accounts += u64::from(pair.account.is_some());
+                replies.push(reply);
+            }
+        }
+    }
+    counts.lists += 1;
+    // Once more in one piece, so that no record passes through numbers between the calls.
+    let calls: Option<Vec<Call>> = steps
+        .iter()
+        .map(|step| match step {
+            Step::Call { memory: 0, call } => Some(*call),
+            _ => None,
+        })
+        .collect();
+    if let Some(calls) = calls {
+        let mut record = FRESH;
+        let mut memory = memories[0].clone();
+        let mut again = vec![[0; 8]; calls.len()];
+        proved(&mut record, &mut memory, &calls, &mut again);
+        if again != replies || record != pair.proved || memory != pair.memories[0] {
+            return Err(Difference {
+                memories,
+                steps,
+                says: "the proved library, in one piece and call by call".into(),
+            });
+        }
+        counts.whole += calls.len() as u64;
+    }
+    Ok(())
+}
+
+/// Whether these steps still show a difference, and which.
+fn differs<M: Machine>(memories: &[Vec<u16>], steps: &[Step]) -> Option<String> {
+    let mut pair = Pair::new(memories);
+    steps.iter().find_map(|step| pair.step::<M>(step).err())
+}
+
+/// Leaves steps out as long as the difference stays.
+fn shrink<M: Machine>(difference: &mut Difference) {
+    let mut size = difference.steps.len() / 2;
+    while size > 0 {
+        let mut start = 0;
+        while start < difference.steps.len() {
+            let mut fewer = difference.steps.clone();
+            fewer.drain(start..(start + size).min(fewer.len()));
+            match differs::<M>(&difference.memories, &fewer) {
+                Some(says) => {
+                    difference.says = says;
+                    difference.steps = fewer;
+                }
+                None => start += size,
+            }
+        }
+        size /= 2;
+    }
+}
+
+fn print_difference(difference: &Difference) {
+    println!("DIFFERENCE in {}", difference.says);
+    println!("after these calls from a fresh record:");
+    for step in &difference.steps {
+        match step {
+            Step::Put(record) => {
+                let fields: Vec<String> =
+                    (0..RECORD).filter(|&i| record[i] != 0).map(|i| format!("{} {:X}", FIELDS[i], record[i])).collect();
+                println!("  record put in, all 0 but: {}", fields.join(", "));
+            }
+            Step::Call { memory, call: [kind, a, b, c] } => {
+                let name = KINDS[*kind as usize];
+                let words = &difference.memories[*memory];
+                let word = words.get(*a as usize).map_or("none".into(), |word| format!("{word:04X}"));
+                match *kind {
+                    WRITE_REGISTER => println!("  {name} {a:02X} {b:08X}"),
+                    READ_REGISTER => println!("  {name} {a:02X}"),
+                    WRITE_MEMORY => println!("  {name} {a:03X} {b:04X} ({} words)", words.len()),
+                    READ_MEMORY => println!("  {name} {a:03X} ({} words)", words.len()),
+                    TICK => println!(
+                        "  {name} {a:03X} {b:02X} {c:08X} ({} words, first of them at this place {word})",
+                        words.len()
+                    ),
+                    _ => println!("  {name}"),
+                }
+            }
+        }
+    }
+}
+
+/// The comparison of the proved library with the model.
+fn compare(seed: u64, calls: u64) -> ExitCode {
+    let mut counts = Counts::new();
+    let mut list = 0;
+    let start = std::time::Instant::now();
+    let mut shown = 0;
+    while counts.calls < calls {
+        if let Err(mut difference) = run_list::<Model>(seed.wrapping_mul(1_000_003).wrapping_add(list), &mut counts) {
+            println!("seed {seed}, list {list}, after {} calls", counts.calls);
+            shrink::<Model>(&mut difference);
+            print_difference(&difference);
+            return ExitCode::FAILURE;
+        }
+        list += 1;
+        if start.elapsed().as_secs() / 10 > shown {
+            shown = start.elapsed().as_secs() / 10;
+            eprintln!("{} of {calls} calls, {list} lists, no difference", counts.calls);
+        }
+    }
+    let missing = counts.print();
+    println!(
+        "{} calls in {} lists compared, no difference; account checked after {} of them; {} run again in one piece",
+        counts.calls, counts.lists, counts.accounts, counts.whole
+    );
+    if missing.is_empty() {
+        ExitCode::SUCCESS
+    } else {
+        println!("NEVER MET: {}", missing.join("; "));
+        ExitCode::FAILURE
+    }
+}
+
+/// Every wrong model against the proved library, by the same lists.
+fn find_faults(seed: u64, calls: u64) -> ExitCode {
+    std::panic::set_hook(Box::new(|_| {}));
+    let mut missed = 0;
+    let mut number = 0;
+    for says in faults::names() {
+        number += 1;
+        faults::turn_on(number);
+        let mut counts = Counts::new();
+        let mut list = 0;
+        let found = loop {
+            if counts.calls >= calls {
+                break None;
+            }
+            let at = seed.wrapping_mul(1_000_003).wrapping_add(list);
+            // A wrong model may run into a panic of its own: that is found too.
+            let run = std::panic::AssertUnwindSafe(|| run_list::<Faulty>(at, &mut counts));
+            match std::panic::catch_unwind(run) {
+                Ok(Ok(())) => list += 1,
+                Ok(Err(mut difference)) => {
+                    let shrunk = std::panic::AssertUnwindSafe(|| {
+                        shrink::<Faulty>(&mut difference);
+                        difference
+                    });
+                    break Some(std::panic::catch_unwind(shrunk).ok());
+                }
+                Err(_) => break Some(None),
+            }
+        };
+        match found {
+            None => {
+                missed += 1;
+                println!("{number:>3}  NOT FOUND in {} calls: {says}", counts.calls);
+            }
+            Some(None) => {
+                println!("{number:>3}  seed {seed}, list {list}, call {}: {says} (it panicked)", counts.calls)
+            }
+            Some(Some(difference)) => println!(
+                "{number:>3}  seed {seed}, list {list}, call {}, shrunk to {} steps: {says}",
+                counts.calls,
+                difference.steps.len(),
+            ),
+        }
+    }
+    faults::turn_on(0);
+    println!("{number} wrong models, {} found, {missed} missed", number - missed);
+    if missed == 0 {
+        ExitCode::SUCCESS
+    } else {
+        ExitCode::FAILURE
+    }
+}
+
+fn number(word: Option<&String>, otherwise: u64) -> u64 {
+    word.map_or(otherwise, |word| word.parse().unwrap_or_else(|_| panic!("{word}: a number was expected")))
+}
+
+fn main() -> ExitCode {
+    let words: Vec<String> = std::env::args().skip(1).collect();
+    match words.first().map(String::as_str) {
+        Some("--faults") => find_faults(number(words.get(1), DEFAULT_SEED), number(words.get(2), DEFAULT_CALLS)),
+        Some("--scripts") => match words.get(1) {
+            Some(program) => scripts::compare(program, number(words.get(2), DEFAULT_SEED), number(words.get(3), 300)),
+            None => {
+                eprintln!("usage: compare --scripts PROGRAM [SEED COUNT]");
+                ExitCode::FAILURE
+            }
+        },
+        _ => compare(number(words.first(), DEFAULT_SEED), number(words.get(1), DEFAULT_CALLS)),
+    }
+}
