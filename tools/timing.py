@@ -12,12 +12,12 @@ TOP = pathlib.Path(__file__).resolve().parent.parent
 PAGE = TOP / "docs" / "TIMING.md"
 
 SCRIPTS = [
-    ("class1", "A class 1 event", "It waits for no higher level: Front takes T4 ticks, here 0, and then the word is loaded."),
+    ("first", "A class 1 event", "It waits for no higher level: level 2 and level 3 accept rise with the end of Delay, and Front loads the word."),
     ("class3", "A class 3 event with both passes", "Level 2 passes, then level 3; the word is loaded from Front."),
     ("late", "A late fail", "T1 is in use and the level 2 fail comes at 2 × T1 or after: the word is loaded with the late bit."),
 ]
 
-# [Tick.2] lines in and [Tick.9] lines out, by bit
+# lines in and lines out, by bit
 IN = ["strobe", "level 2 pass", "level 2 fail", "level 3 pass", "level 3 fail", "front busy", "inhibit"]
 OUT = ["level 1 OK", "level 2 start", "level 2 accept", "level 3 start", "level 3 accept", "clear"]
 

@@ -1,0 +1,154 @@
+-- `script::run_from` meets its contract: WHY.
+-- Written by tools/prove.py; no answer was changed by hand. Assumes nothing.
+use Prim.Native.Nat.{ℕ, _+_, _-_, _*_, _<_, _≤_}
+use mathlib.Core.Path.{_≡_, refl, sym, ap, _∙_}
+use mathlib.Core.List.{List, [], _++_, append-nil}
+use native.Mathlib.Omega.{arith}
+use lib.ListN.{length, take, drop, length-drop, length-replicate}
+use lib.Seq.{take-all}
+use borrow.Author.Needs.{needs}
+use Rattle.calls.specs.Calls.{memoryPlaces}
+use Rattle.script.specs.Reader.{linesOf, firstLineOf}
+use Rattle.script.specs.Answers.{scriptLimit, session, freshSession, lineAnswer, sessionAfter, answersFrom}
+use Rattle.script.specs.Page.{capacity, page, write}
+use Rattle.script.specs.declared.reader.Command.{Command}
+use Rattle.script.specs.declared.reader.Line.{Line}
+use Rattle.script.proofs.ReaderLaws.{length-at-most}
+use Rattle.script.proofs.RunLaws.{turn-keeps-room, turn-keeps-answers, answers-none}
+use Rattle.script.proofs.run_from.Statement.{statement}
+use Rattle.script.proofs.run_from.Tie as tie
+
+abbrev Inv-loop : tie.InvT-loop
+Inv-loop script start out₀ memory₀ s₀ at₀ printed₀ out memory s at printed =
+    (length out ≡ capacity)
+    × (length memory ≡ memoryPlaces)
+    × (at ≤ scriptLimit + 1)
+    × (printed + 5 * (length script - at) ≤ capacity)
+    × (take printed out ++ answersFrom (linesOf (drop at script)) (session s memory)
+        ≡ answersFrom (linesOf (drop start script)) freshSession)
+
+abbrev μ-loop : tie.MeasureT-loop
+μ-loop script start out₀ memory₀ s₀ at₀ printed₀ out memory s at printed = length script - at
+
+zeros-requires : tie.Need-zeros-requires Inv-loop μ-loop
+zeros-requires c κs = search needs
+
+fresh-requires : tie.Need-fresh-requires Inv-loop μ-loop
+fresh-requires c κs = search needs
+
+loop-holds : tie.Need-loop-holds Inv-loop μ-loop
+unfolding freshSession
+loop-holds c =
+    let start = c .before .before .before .before in
+    (
+      start .pre .1 .1,
+      ap length (c .before .zeros .ensures) ∙ length-replicate {A = ℕ} memoryPlaces 0,
+      start .pre .1 .0,
+      omega (arith, start .pre .0),
+      λ j. answersFrom (linesOf (drop (start .args .start) (start .args .script .now)))
+      (session (c .fresh .ensures j) (c .before .zeros .ensures j)),
+    )
+
+sub-first-line : tie.Need-sub-first-line Inv-loop μ-loop
+sub-first-line c = omega arith
+
+part-first-line-start : tie.Need-part-first-line-start Inv-loop μ-loop
+part-first-line-start c = search needs
+
+part-first-line-end : tie.Need-part-first-line-end Inv-loop μ-loop
+part-first-line-end c = search needs
+
+first-line-requires : tie.Need-first-line-requires Inv-loop μ-loop
+first-line-requires c κs = search needs
+
+slice-aggregate-run-line : tie.Need-slice-aggregate-run-line Inv-loop μ-loop
+slice-aggregate-run-line c = search needs
+
+run-line-requires : tie.Need-run-line-requires Inv-loop μ-loop
+run-line-requires c κs = search needs
+
+-- what the line reader read is the line that starts at the loop's place
+line-read : (c : tie.After-first-line Inv-loop μ-loop) →
+  c .first-line .result ≡ firstLineOf (drop (c .before .before .before .loop .at) (c .before .before .before .before .before .before .before .before .args .script .now))
+line-read c =
+    let script = c .before .before .before .before .before .before .before .before .args .script .now in
+    let at = c .before .before .before .loop .at in
+    c .first-line .ensures ∙ ap firstLineOf (take-all (length script - at) (drop at script) (omega (arith, length-drop at script)))
+
+add-at : tie.Need-add-at Inv-loop μ-loop
+add-at c =
+    let l = c .before .before .before .before .before .before .before .before .before .before .before .loop in
+    let script = c .before .before .before .before .before .before .before .before .before .before .before .before .before .before .before .before .args .script .now in
+    let rest = drop (l .at) script in
+    let len = ap (λ (r : Line). r .len) (line-read (c .before .before .before .before .before .before .before .before)) in
+    omega (arith, len, length-at-most rest, length-drop (l .at) script, c .before .before .before .before .before .before .before .before .before .before .before .before .before .before .before .before .pre .0, c .before .before .before .before .before .before .before .before .before .before .loop-test .taken)
+
+add-at-2 : tie.Need-add-at-2 Inv-loop μ-loop
+add-at-2 c =
+    let l = c .before .before .before .before .before .before .before .before .before .before .before .loop in
+    let script = c .before .before .before .before .before .before .before .before .before .before .before .before .before .before .before .before .args .script .now in
+    let rest = drop (l .at) script in
+    let len = ap (λ (r : Line). r .len) (line-read (c .before .before .before .before .before .before .before .before)) in
+    omega (arith, len, length-at-most rest, length-drop (l .at) script, c .before .before .before .before .before .before .before .before .before .before .before .before .before .before .before .before .pre .0, c .before .before .before .before .before .before .before .before .before .before .loop-test .taken)
+
+loop-less : tie.Need-loop-less Inv-loop μ-loop
+loop-less c =
+    let l = c .before .before .before .before .before .before .before .before .before .before .before .loop in
+    let script = c .before .before .before .before .before .before .before .before .before .before .before .before .before .before .before .before .args .script .now in
+    let rest = drop (l .at) script in
+    let len = ap (λ (r : Line). r .len) (line-read (c .before .before .before .before .before .before .before .before)) in
+    omega (arith, len, length-at-most rest, length-drop (l .at) script, c .before .before .before .before .before .before .before .before .before .before .before .before .before .before .before .before .pre .0, c .before .before .before .before .before .before .before .before .before .before .loop-test .taken)
+
+loop-again : tie.Need-loop-again Inv-loop μ-loop
+loop-again c =
+    let l = c .before .before .before .before .before .before .before .before .before .before .before .loop in
+    let script = c .before .before .before .before .before .before .before .before .before .before .before .before .before .before .before .before .args .script .now in
+    let rest = drop (l .at) script in
+    let len = ap (λ (r : Line). r .len) (line-read (c .before .before .before .before .before .before .before .before)) in
+    let run = c .before .before .before .before .before .run-line in
+    let more = c .before .before .before .before .before .before .before .before .before .before .loop-test .taken in
+    let asked = ap (λ (r : Line). r .command) (line-read (c .before .before .before .before .before .before .before .before)) in
+    let told = run .ensures .1 ∙ ap (λ (k : Command). write (lineAnswer k (session (l .s) (l .memory))) (page (l .out) (l .printed))) asked in
+    let next = run .ensures .0 ∙ ap (λ (k : Command). sessionAfter k (session (l .s) (l .memory))) asked in
+    let room = turn-keeps-room script (l .out) _ (l .at) (l .printed) (run .result .at) _ _ more (l .inv .0) (l .inv .3) told next in
+    let answers = turn-keeps-answers script (l .out) _ (l .at) (l .printed) (run .result .at) _ _ more (l .inv .0) (l .inv .3) told next _ (l .inv .4) in
+    (
+      run .kept .1 .1 .1 .0 ∙ l .inv .0,
+      run .kept .1 .0 ∙ l .inv .1,
+      omega (arith, len, length-at-most rest, length-drop (l .at) script, c .before .before .before .before .before .before .before .before .before .before .before .before .before .before .before .before .pre .0, c .before .before .before .before .before .before .before .before .before .before .loop-test .taken),
+      rw len room,
+      rw len answers,
+    )
+
+same-length : tie.Need-same-length Inv-loop μ-loop
+same-length c = c .before .loop .inv .0 ∙ sym (c .before .before .before .before .before .before .pre .1 .1)
+
+returns : tie.Need-returns Inv-loop μ-loop
+returns c =
+    let l = c .before .loop in
+    (
+      sym (append-nil (take (l .printed) (l .out))) ∙ ap (λ (t : List ℕ). take (l .printed) (l .out) ++ t) (answers-none (c .before .before .before .before .before .before .args .script .now) (l .at) (session (l .s) (l .memory)) (c .loop-test .left)) ∙ l .inv .4,
+      omega arith,
+    )
+
+pub run-from-spec : {M : Type 1} → statement M
+run-from-spec =
+    tie.close
+    (tie.spec
+    Inv-loop
+    μ-loop
+    zeros-requires
+    fresh-requires
+    loop-holds
+    sub-first-line
+    part-first-line-start
+    part-first-line-end
+    first-line-requires
+    slice-aggregate-run-line
+    run-line-requires
+    add-at
+    add-at-2
+    loop-less
+    loop-again
+    same-length
+    returns)

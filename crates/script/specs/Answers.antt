@@ -1,0 +1,110 @@
+-- A console session: what each line prints and does, and what a whole script prints.
+--     document 01     "Console program"
+--     Session         the record and the memory that a console keeps
+--     lineAnswer      what a line prints
+--     sessionAfter    the session after it
+--     answersOf       all that a script prints
+-- Own rules of 01 used here: none. Decisions: none. Left out: standard input and output, in console.
+-- Assumes nothing.
+use Prim.Native.Nat.{ℕ}
+use mathlib.Core.Bool.{Bool, true, false, _&&_}
+use mathlib.Core.List.{List, [], _∷_, _++_}
+use lib.Dec.{eqb, leb}
+use lib.ListN.{length}
+use Rattle.bits.specs.Notation.{if_then_else_}
+use Rattle.branches.specs.Readout.{moduleBranches}
+use Rattle.core.specs.declared.lines.Inputs.{Inputs}
+use Rattle.supervisor.specs.Supervisor.{freshOf}
+use Rattle.supervisor.specs.declared.Supervisor.{Supervisor}
+use Rattle.calls.specs.Answers.{Reply, declined}
+use Rattle.calls.specs.Runs.{Ask, writeRegister, readRegister, writeMemory, readMemory, tick, askOf, memoryAfter, zeroMemory}
+use Rattle.script.specs.Reader.{linesOf, commandOf}
+use Rattle.script.specs.Printer.{replyText, noText}
+use Rattle.script.specs.declared.reader.Command.{Command}
+use Rattle.script.specs.declared.reader.Command.the-variants.{WriteRegister, ReadRegister, WriteMemory}
+use Rattle.script.specs.declared.reader.Command.the-variants.{ReadMemory, Tick, Other}
+
+-- ---- constants of document 01
+
+-- [Console.1]
+abbrev pub scriptLimit : ℕ
+scriptLimit = 65536
+
+-- [Console.5] a line of other form, a bad first line, a longer script
+abbrev pub malformed : ℕ
+malformed = 6
+
+-- [Console.2] `supervisor`, tab, `1`
+abbrev pub header : List ℕ
+header = 115 ∷ 117 ∷ 112 ∷ 101 ∷ 114 ∷ 118 ∷ 105 ∷ 115 ∷ 111 ∷ 114 ∷ 9 ∷ 49 ∷ []
+
+-- ---- a session
+
+pub record Session : Type 0 where
+  pub supervisor : Supervisor
+  pub memory : List ℕ
+
+abbrev pub session : Supervisor → List ℕ → Session
+session s memory = record { supervisor = s; memory = memory }
+
+-- [Console.1]
+unfoldable pub freshSession : Session
+freshSession = session (freshOf moduleBranches) zeroMemory
+
+-- ---- one line
+
+abbrev pub inputsOf : (triggers lines acks : ℕ) → Inputs
+inputsOf triggers lines acks = record { triggers = triggers; lines = record { word = lines }; acks = acks }
+
+abbrev replyTo : Ask → Session → Reply
+replyTo ask z = askOf ask (z .memory) (z .supervisor) .reply
+
+abbrev after : Ask → Session → Session
+after ask z =
+    record {
+      supervisor = askOf ask (z .memory) (z .supervisor) .next;
+      memory = memoryAfter ask (z .memory) (z .supervisor);
+    }
+
+-- [Console.5] a register is read in 8 digits, a memory word in 4
+abbrev pub lineAnswer : Command → Session → List ℕ
+lineAnswer (WriteRegister number v) z = replyText 0 (replyTo (writeRegister number v) z)
+lineAnswer (ReadRegister number) z = replyText 8 (replyTo (readRegister number) z)
+lineAnswer (WriteMemory place w) z = replyText 0 (replyTo (writeMemory place w) z)
+lineAnswer (ReadMemory place) z = replyText 4 (replyTo (readMemory place) z)
+lineAnswer (Tick triggers lines acks) z = replyText 0 (replyTo (tick (inputsOf triggers lines acks)) z)
+lineAnswer Other z = noText malformed
+
+abbrev pub sessionAfter : Command → Session → Session
+sessionAfter (WriteRegister number v) z = after (writeRegister number v) z
+sessionAfter (ReadRegister number) z = after (readRegister number) z
+sessionAfter (WriteMemory place w) z = after (writeMemory place w) z
+sessionAfter (ReadMemory place) z = after (readMemory place) z
+sessionAfter (Tick triggers lines acks) z = after (tick (inputsOf triggers lines acks)) z
+sessionAfter Other z = z
+
+-- ---- a script
+
+-- [Console.5] a line that is declined, or of other form, does not stop the next
+unfoldable pub answersFrom : List (List ℕ) → Session → List ℕ
+answersFrom [] z = []
+answersFrom (l ∷ ls) z = lineAnswer (commandOf l) z ++ answersFrom ls (sessionAfter (commandOf l) z)
+
+unfoldable pub isSameOf : List ℕ → List ℕ → Bool
+isSameOf [] [] = true
+isSameOf [] (c ∷ cs) = false
+isSameOf (b ∷ bs) [] = false
+isSameOf (b ∷ bs) (c ∷ cs) = eqb b c && isSameOf bs cs
+
+-- [Console.2]
+abbrev pub isHeaderOf : List ℕ → Bool
+isHeaderOf l = isSameOf l header
+
+-- [Console.2] [Console.6] the lines after a right first line; no line at all has none
+unfoldable pub answersAfterHeader : List (List ℕ) → List ℕ
+answersAfterHeader [] = noText malformed
+answersAfterHeader (l ∷ ls) = if isHeaderOf l then answersFrom ls freshSession else noText malformed
+
+-- [Console.1] [Console.6]
+unfoldable pub answersOf : List ℕ → List ℕ
+answersOf script = if leb (length script) scriptLimit then answersAfterHeader (linesOf script) else noText malformed
