@@ -23,15 +23,15 @@ pub write-4 : (a b c d : List ℕ) (p : Page) → write (a ++ (b ++ (c ++ d))) p
 write-4 a b c d p = rw (write-append a (b ++ (c ++ d)) p, write-append b (c ++ d), write-append c d)
 
 pub write-5 : (a b c d e : List ℕ) (p : Page) →
-  write (a ++ (b ++ (c ++ (d ++ e)))) p ≡ write e (write d (write c (write b (write a p))))
+    write (a ++ (b ++ (c ++ (d ++ e)))) p ≡ write e (write d (write c (write b (write a p))))
 write-5 a b c d e p = rw (write-append a (b ++ (c ++ (d ++ e))) p, write-4 b c d e)
 
 -- ---- a tick's answer
 
 -- the parts that the code prints, one after the other, are the fifteen fields
 pub tick-by-parts : (a : Answer) (p : Page) →
-  write (spaced (fieldsOf a)) p
-  ≡ writeByte newline
+    write (spaced (fieldsOf a)) p
+    ≡ writeByte newline
     (write (shownPart (a .sides))
     (write (finishedPart (a .sides))
     (write (outcomeText (a .outcome)) (writeByte space (write (hex 4 (a .lines)) (write (masksPart (a .masks)) p))))))
@@ -41,7 +41,7 @@ tick-by-parts a p = simp write-append
 -- ---- digits
 
 pub write-hex : (n v : ℕ) (p : Page) → 0 < n →
-  write (hex n v) p ≡ write (hex (n - 1) v) (writeByte (hexDigit (v / 16 ^ (n - 1) % 16)) p)
+    write (hex n v) p ≡ write (hex (n - 1) v) (writeByte (hexDigit (v / 16 ^ (n - 1) % 16)) p)
 unfolding hex write
 write-hex zero v p h = absurd (omega arith)
 write-hex (suc n) v p h =

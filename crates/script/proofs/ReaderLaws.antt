@@ -34,18 +34,18 @@ every-fails (suc n) f (suc i) k h = and-fails (f 0) (every-fails n (λ j. f (suc
 -- ---- the first line
 
 length-step : (b : ℕ) (bs : List ℕ) (t : Bool) → eqb b newline ≡ t →
-  lineLengthOf (b ∷ bs) ≡ cond t 0 (suc (lineLengthOf bs))
+    lineLengthOf (b ∷ bs) ≡ cond t 0 (suc (lineLengthOf bs))
 unfolding lineLengthOf
 length-step b bs t h = rw h
 
 -- a byte that is no newline
 pub length-after : (s : List ℕ) (i : ℕ) → i < length s → eqb (getD s i 0) newline ≡ false →
-  i + lineLengthOf (drop i s) ≡ i + 1 + lineLengthOf (drop (i + 1) s)
+    i + lineLengthOf (drop i s) ≡ i + 1 + lineLengthOf (drop (i + 1) s)
 length-after s i k h = rw (add-one, drop-cons s i 0 k, length-step _ _ false h) (omega arith)
 
 -- a newline
 pub length-at : (s : List ℕ) (i : ℕ) → i < length s → eqb (getD s i 0) newline ≡ true →
-  lineLengthOf (drop i s) ≡ 0
+    lineLengthOf (drop i s) ≡ 0
 length-at s i k h = rw (drop-cons s i 0 k, length-step _ _ true h)
 
 pub length-none : (s : List ℕ) (i : ℕ) → length s ≤ i → lineLengthOf (drop i s) ≡ 0
@@ -75,7 +75,7 @@ split-by b (d ∷ bs) false e rest = rw e (ap (beforeFirst b) (rest (omega arith
 
 -- a script that is not empty: its first line, then those after the newline
 pub lines-first : (l : List ℕ) → 0 < length l →
-  linesOf l ≡ take (lineLengthOf l) l ∷ linesOf (drop (suc (lineLengthOf l)) l)
+    linesOf l ≡ take (lineLengthOf l) l ∷ linesOf (drop (suc (lineLengthOf l)) l)
 lines-first [] h = absurd (omega arith)
 lines-first (b ∷ bs) h = split-by b bs (eqb b newline) refl (lines-first bs)
 
@@ -93,11 +93,11 @@ unfolding isSameOf
 same-step c d a b t e = rw e
 
 pub same-after : (a b : List ℕ) (i : ℕ) → i < length a → i < length b → eqb (getD a i 0) (getD b i 0) ≡ true →
-  isSameOf (drop i a) (drop i b) ≡ isSameOf (drop (i + 1) a) (drop (i + 1) b)
+    isSameOf (drop i a) (drop i b) ≡ isSameOf (drop (i + 1) a) (drop (i + 1) b)
 same-after a b i h k e = rw (add-one, drop-cons a i 0 h, drop-cons b i 0 k, same-step _ _ _ _ true e)
 
 pub same-fails : (a b : List ℕ) (i : ℕ) → i < length a → i < length b → eqb (getD a i 0) (getD b i 0) ≡ false →
-  isSameOf (drop i a) (drop i b) ≡ false
+    isSameOf (drop i a) (drop i b) ≡ false
 same-fails a b i h k e = rw (drop-cons a i 0 h, drop-cons b i 0 k, same-step _ _ _ _ false e)
 
 pub same-ends : (a b : List ℕ) (i : ℕ) → length a ≤ i → length b ≤ i → isSameOf (drop i a) (drop i b) ≡ true

@@ -30,7 +30,7 @@ unfolding writeByte
 byte-fits b p h = rw (lt-ltb (p .at) (length (p .bytes)) h)
 
 pub written-at : (bs : List ℕ) (l : List ℕ) (at : ℕ) → at + length bs ≤ length l →
-  write bs (page l at) .at ≡ at + length bs
+    write bs (page l at) .at ≡ at + length bs
 unfolding write
 written-at [] l at h = omega arith
 written-at (b ∷ bs) l at h =
@@ -40,7 +40,7 @@ written-at (b ∷ bs) l at h =
     ∙ e
 
 pub written-length : (bs : List ℕ) (l : List ℕ) (at : ℕ) → at + length bs ≤ length l →
-  length (write bs (page l at) .bytes) ≡ length l
+    length (write bs (page l at) .bytes) ≡ length l
 unfolding write
 written-length [] l at h = refl
 written-length (b ∷ bs) l at h =
@@ -49,7 +49,7 @@ written-length (b ∷ bs) l at h =
     ∙ length-set l at b
 
 pub written-text : (bs : List ℕ) (l : List ℕ) (at : ℕ) → at + length bs ≤ length l →
-  take (at + length bs) (write bs (page l at) .bytes) ≡ take at l ++ bs
+    take (at + length bs) (write bs (page l at) .bytes) ≡ take at l ++ bs
 unfolding write
 written-text [] l at h =
     let e : at + 0 ≡ at = omega arith in
@@ -65,13 +65,13 @@ written-text (b ∷ bs) l at h =
 -- ---- a turn of the loop
 
 answers-first : (l : List ℕ) (ls : List (List ℕ)) (z : Session) →
-  answersFrom (l ∷ ls) z ≡ lineAnswer (commandOf l) z ++ answersFrom ls (sessionAfter (commandOf l) z)
+    answersFrom (l ∷ ls) z ≡ lineAnswer (commandOf l) z ++ answersFrom ls (sessionAfter (commandOf l) z)
 unfolding answersFrom
 answers-first l ls z = refl
 
 -- nothing is left at the end
 pub answers-none : (script : List ℕ) (at : ℕ) (z : Session) → length script ≤ at →
-  [] ≡ answersFrom (linesOf (drop at script)) z
+    [] ≡ answersFrom (linesOf (drop at script)) z
 unfolding linesOf answersFrom
 answers-none script at z h = rw (drop-of-length-le script h)
 
@@ -83,66 +83,65 @@ abbrev pub commandAt : List ℕ → ℕ → Command
 commandAt script at = commandOf (take (lenAt script at) (drop at script))
 
 module _ (script out out′ : List ℕ) (at printed printed′ : ℕ) (z z′ : Session)
-  (more : at < length script)
-  (full : length out ≡ capacity)
-  (room : printed + 5 * (length script - at) ≤ capacity)
-  (told : page out′ printed′ ≡ write (lineAnswer (commandAt script at) z) (page out printed))
-  (next : z′ ≡ sessionAfter (commandAt script at) z)
+    (more : at < length script)
+    (full : length out ≡ capacity)
+    (room : printed + 5 * (length script - at) ≤ capacity)
+    (told : page out′ printed′ ≡ write (lineAnswer (commandAt script at) z) (page out printed))
+    (next : z′ ≡ sessionAfter (commandAt script at) z)
   where
-  abbrev answer : List ℕ
-  answer = lineAnswer (commandAt script at) z
+    abbrev answer : List ℕ
+    answer = lineAnswer (commandAt script at) z
 
-  turn-fits : length answer ≤ 5 + 5 * (lenAt script at - 1)
-  turn-fits =
-      rw (length-take-le (lenAt script at) (drop at script) (length-at-most (drop at script))) at
-      (answer-fits (take (lenAt script at) (drop at script)) z)
+    turn-fits : length answer ≤ 5 + 5 * (lenAt script at - 1)
+    turn-fits =
+        rw (length-take-le (lenAt script at) (drop at script) (length-at-most (drop at script))) at
+        (answer-fits (take (lenAt script at) (drop at script)) z)
 
-  within : lenAt script at ≤ length script - at
-  within = rw (length-drop at script) at (length-at-most (drop at script))
+    within : lenAt script at ≤ length script - at
+    within = rw (length-drop at script) at (length-at-most (drop at script))
 
-  fits : printed + length answer ≤ length out
-  fits = omega (arith, turn-fits, within)
+    fits : printed + length answer ≤ length out
+    fits = omega (arith, turn-fits, within)
 
-  place : printed′ ≡ printed + length answer
-  place =
-      ap (λ (p : Page). p .at) told
-      ∙ written-at answer out printed fits
+    place : printed′ ≡ printed + length answer
+    place =
+        ap (λ (p : Page). p .at) told
+        ∙ written-at answer out printed fits
 
-  pub turn-keeps-length : length out′ ≡ capacity
-  turn-keeps-length =
-      ap (λ (p : Page). length (p .bytes)) told
-      ∙ written-length answer out printed fits
-      ∙ full
+    pub turn-keeps-length : length out′ ≡ capacity
+    turn-keeps-length =
+        ap (λ (p : Page). length (p .bytes)) told
+        ∙ written-length answer out printed fits
+        ∙ full
 
-  pub turn-keeps-room : printed′ + 5 * (length script - (at + (lenAt script at + 1))) ≤ capacity
-  turn-keeps-room = omega (arith, turn-fits, within, place)
+    pub turn-keeps-room : printed′ + 5 * (length script - (at + (lenAt script at + 1))) ≤ capacity
+    turn-keeps-room = omega (arith, turn-fits, within, place)
 
-  pub turn-keeps-answers : (total : List ℕ) → take printed out ++ answersFrom (linesOf (drop at script)) z ≡ total →
-    take printed′ out′ ++ answersFrom (linesOf (drop (at + (lenAt script at + 1)) script)) z′ ≡ total
-  turn-keeps-answers total h =
-      let e : at + (lenAt script at + 1) ≡ at + suc (lenAt script at) = omega arith in
-      let text : take (printed + length answer) out′ ≡ take printed out ++ answer =
+    pub turn-keeps-answers : (total : List ℕ) → take printed out ++ answersFrom (linesOf (drop at script)) z ≡ total →
+        take printed′ out′ ++ answersFrom (linesOf (drop (at + (lenAt script at + 1)) script)) z′ ≡ total
+    turn-keeps-answers total h =
+        let e : at + (lenAt script at + 1) ≡ at + suc (lenAt script at) = omega arith in
+        let text : take (printed + length answer) out′ ≡ take printed out ++ answer =
         ap (λ (p : Page). take (printed + length answer) (p .bytes)) told ∙ written-text answer out printed fits in
-      let after : drop (at + (lenAt script at + 1)) script ≡ drop (suc (lenAt script at)) (drop at script) =
+        let after : drop (at + (lenAt script at + 1)) script ≡ drop (suc (lenAt script at)) (drop at script) =
         ap (λ (n : ℕ). drop n script) e ∙ sym (drop-drop (suc (lenAt script at)) at script) in
-      let some : 0 < length (drop at script) = rw (length-drop at script) (omega arith) in
-      (λ j. take (place j) out′ ++ answersFrom (linesOf (after j)) (next j))
-      ∙ ap (λ (l : List ℕ). l ++ answersFrom (linesOf (drop (suc (lenAt script at)) (drop at script))) (sessionAfter (commandAt script at) z)) text
-      ∙ append-assoc (take printed out) answer (answersFrom (linesOf (drop (suc (lenAt script at)) (drop at script))) (sessionAfter (commandAt script at) z))
-      ∙ ap (λ (l : List ℕ). take printed out ++ l)
+        let some : 0 < length (drop at script) = rw (length-drop at script) (omega arith) in
+        (λ j. take (place j) out′ ++ answersFrom (linesOf (after j)) (next j))
+        ∙ ap (λ (l : List ℕ). l ++ answersFrom (linesOf (drop (suc (lenAt script at)) (drop at script))) (sessionAfter (commandAt script at) z)) text
+        ∙ append-assoc (take printed out) answer (answersFrom (linesOf (drop (suc (lenAt script at)) (drop at script))) (sessionAfter (commandAt script at) z))
+        ∙ ap (λ (l : List ℕ). take printed out ++ l)
         (sym (answers-first (take (lenAt script at) (drop at script)) (linesOf (drop (suc (lenAt script at)) (drop at script))) z)
         ∙ ap (λ (ls : List (List ℕ)). answersFrom ls z) (sym (lines-first (drop at script) some)))
-      ∙ h
+        ∙ h
 
 -- ---- a whole script
 
 -- what `no 6` leaves on an empty page
 pub no-printed : (l l′ : List ℕ) (r : ℕ) → length l ≡ capacity → page l′ r ≡ write (noText malformed) (page l 0) →
-  (take r l′ ≡ noText malformed) × (r ≤ capacity)
+    (take r l′ ≡ noText malformed) × (r ≤ capacity)
 no-printed l l′ r full told =
     let fits : 0 + length (noText malformed) ≤ length l = omega arith in
-    let place : r ≡ 5 = ap (λ (p : Page). p .at) told ∙ written-at (noText malformed) l 0 fits in
-    (
+    let place : r ≡ 5 = ap (λ (p : Page). p .at) told ∙ written-at (noText malformed) l 0 fits in (
       (λ j. take (place j) (told j .bytes)) ∙ written-text (noText malformed) l 0 fits,
       omega arith,
     )
@@ -153,7 +152,7 @@ long-script script h = rw (lt-leb (length script) scriptLimit h)
 
 -- the first line decides
 after-first : (l : List ℕ) (ls : List (List ℕ)) (t : Bool) → isHeaderOf l ≡ t →
-  answersAfterHeader (l ∷ ls) ≡ cond t (answersFrom ls freshSession) (noText malformed)
+    answersAfterHeader (l ∷ ls) ≡ cond t (answersFrom ls freshSession) (noText malformed)
 unfolding answersAfterHeader
 after-first l ls t h = rw h
 
@@ -162,7 +161,7 @@ unfolding answersOf
 short-script script h = rw (le-leb (length script) scriptLimit h)
 
 pub bad-first : (script : List ℕ) → length script ≤ scriptLimit →
-  isHeaderOf (take (lineLengthOf script) script) ≡ false → answersOf script ≡ noText malformed
+    isHeaderOf (take (lineLengthOf script) script) ≡ false → answersOf script ≡ noText malformed
 unfolding answersAfterHeader linesOf
 bad-first [] h k = short-script [] h
 bad-first (b ∷ bs) h k =
@@ -171,8 +170,8 @@ bad-first (b ∷ bs) h k =
     ∙ after-first (take (lineLengthOf (b ∷ bs)) (b ∷ bs)) (linesOf (drop (suc (lineLengthOf (b ∷ bs))) (b ∷ bs))) false k
 
 pub good-first : (script : List ℕ) → length script ≤ scriptLimit →
-  isHeaderOf (take (lineLengthOf script) script) ≡ true →
-  answersOf script ≡ answersFrom (linesOf (drop (lineLengthOf script + 1) script)) freshSession
+    isHeaderOf (take (lineLengthOf script) script) ≡ true →
+    answersOf script ≡ answersFrom (linesOf (drop (lineLengthOf script + 1) script)) freshSession
 unfolding isSameOf lineLengthOf
 good-first [] h k = absurd (false≢true k)
 good-first (b ∷ bs) h k =

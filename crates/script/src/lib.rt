@@ -7,10 +7,12 @@ ghost use Rattle.calls.specs.Runs.{zeroMemory};
 ghost use Rattle.script.specs.Reader.{linesOf};
 ghost use Rattle.script.specs.Answers.{scriptLimit, freshSession, isSameOf, isHeaderOf, answersFrom, answersOf};
 ghost use Rattle.script.specs.Page.{capacity};
+
 mod page;
 mod printer;
 pub mod reader;
 mod session;
+
 use calls::MEMORY_PLACES;
 use printer::put_no;
 use reader::first_line;

@@ -8,14 +8,14 @@ ghost use Rattle.script.specs.Text.{newline, hex};
 ghost use Rattle.script.specs.Printer.{outcomeText, slotText, noText, okText, replyText};
 ghost use Rattle.script.specs.Parts.{maskPart, masksPart, slotPart, finishedPart, shownPart};
 ghost use Rattle.script.specs.Page.{page, write};
+use crate::page::put;
+use crate::page::put_hex;
 use branch::Slot;
 use branches::Side;
 use calls::Decline;
 use calls::Reading;
 use calls::Verdict;
 use core::Masks;
-use crate::page::put;
-use crate::page::put_hex;
 use sequencer::main_sequencer::Outcome;
 use supervisor::Answer;
 

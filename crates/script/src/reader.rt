@@ -166,7 +166,11 @@ fn command_of(line: &[u8]) -> Command
         return Command::ReadMemory(number_at(line, 2, 3));
     }
     if is_tick(line) {
-        return Command::Tick(number_at(line, 2, 3), number_at(line, 6, 2), number_at(line, 9, 8));
+        return Command::Tick(
+            number_at(line, 2, 3),
+            number_at(line, 6, 2),
+            number_at(line, 9, 8),
+        );
     }
     Command::Other
 }

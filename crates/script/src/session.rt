@@ -3,6 +3,11 @@
 ghost use mathlib.Core.Path.{_≡_};
 ghost use Rattle.script.specs.Answers.{session, inputsOf, lineAnswer, sessionAfter};
 ghost use Rattle.script.specs.Page.{page, write};
+use crate::printer::put_no;
+use crate::printer::put_reading;
+use crate::printer::put_tick;
+use crate::printer::put_verdict;
+use crate::reader::Command;
 use calls::read_memory;
 use calls::read_register;
 use calls::tick;
@@ -10,11 +15,6 @@ use calls::write_memory;
 use calls::write_register;
 use core::lines::Inputs;
 use core::lines::Lines;
-use crate::printer::put_no;
-use crate::printer::put_reading;
-use crate::printer::put_tick;
-use crate::printer::put_verdict;
-use crate::reader::Command;
 use supervisor::Supervisor;
 
 // [Console.6] the number of a line of other form
@@ -42,7 +42,13 @@ fn inputs(triggers: u32, lines: u32, acks: u32) -> Inputs
 }
 
 // [Console.5] the one place where a line becomes a call
-pub fn run_line(s: Supervisor, memory: &mut [u16], command: Command, out: &mut [u8], at: usize) -> LineDone
+pub fn run_line(
+    s: Supervisor,
+    memory: &mut [u16],
+    command: Command,
+    out: &mut [u8],
+    at: usize,
+) -> LineDone
     ensures { λ r. ⌜ session (r .next) (now (memory .exit)) ≡ sessionAfter command (session s (now (memory .entry))) ⌝ }
     ensures { λ r. ⌜ page (now (out .exit)) (r .at) ≡ write (lineAnswer command (session s (now (memory .entry)))) (page (now (out .entry)) at) ⌝ }
 {

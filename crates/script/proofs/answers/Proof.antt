@@ -55,11 +55,10 @@ returns-3 c =
     let args = c .before .before .before .before .before .before .before .before .args in
     let full : length (args .out .now) ≡ capacity = search needs in
     let first = c .before .before .before .before .before .line-length .ensures .0 in
-    let good = sym (ap (λ (n : ℕ). isHeaderOf (take n (args .script .now))) first) ∙ sym (c .before .before .before .is-header .ensures) ∙ not-false _ (c .before .before .if2 .left) in
-    (
+    let good = sym (ap (λ (n : ℕ). isHeaderOf (take n (args .script .now))) first) ∙ sym (c .before .before .before .is-header .ensures) ∙ not-false _ (c .before .before .if2 .left) in (
       c .run-from .ensures .0
-      ∙ ap (λ (n : ℕ). answersFrom (linesOf (drop (n + 1) (args .script .now))) freshSession) first
-      ∙ sym (good-first (args .script .now) (c .before .before .before .before .before .before .if1 .left) good),
+          ∙ ap (λ (n : ℕ). answersFrom (linesOf (drop (n + 1) (args .script .now))) freshSession) first
+          ∙ sym (good-first (args .script .now) (c .before .before .before .before .before .before .if1 .left) good),
       (c .run-from .ensures .1, c .run-from .kept .1 .1 .0 ∙ full),
     )
 

@@ -25,7 +25,7 @@ Inv-loop script start out₀ memory₀ s₀ at₀ printed₀ out memory s at pri
     × (at ≤ scriptLimit + 1)
     × (printed + 5 * (length script - at) ≤ capacity)
     × (take printed out ++ answersFrom (linesOf (drop at script)) (session s memory)
-        ≡ answersFrom (linesOf (drop start script)) freshSession)
+    ≡ answersFrom (linesOf (drop start script)) freshSession)
 
 abbrev μ-loop : tie.MeasureT-loop
 μ-loop script start out₀ memory₀ s₀ at₀ printed₀ out memory s at printed = length script - at
@@ -39,14 +39,13 @@ fresh-requires c κs = search needs
 loop-holds : tie.Need-loop-holds Inv-loop μ-loop
 unfolding freshSession
 loop-holds c =
-    let start = c .before .before .before .before in
-    (
+    let start = c .before .before .before .before in (
       start .pre .1 .1,
       ap length (c .before .zeros .ensures) ∙ length-replicate {A = ℕ} memoryPlaces 0,
       start .pre .1 .0,
       omega (arith, start .pre .0),
       λ j. answersFrom (linesOf (drop (start .args .start) (start .args .script .now)))
-      (session (c .fresh .ensures j) (c .before .zeros .ensures j)),
+          (session (c .fresh .ensures j) (c .before .zeros .ensures j)),
     )
 
 sub-first-line : tie.Need-sub-first-line Inv-loop μ-loop
@@ -69,7 +68,7 @@ run-line-requires c κs = search needs
 
 -- what the line reader read is the line that starts at the loop's place
 line-read : (c : tie.After-first-line Inv-loop μ-loop) →
-  c .first-line .result ≡ firstLineOf (drop (c .before .before .before .loop .at) (c .before .before .before .before .before .before .before .before .args .script .now))
+    c .first-line .result ≡ firstLineOf (drop (c .before .before .before .loop .at) (c .before .before .before .before .before .before .before .before .args .script .now))
 line-read c =
     let script = c .before .before .before .before .before .before .before .before .args .script .now in
     let at = c .before .before .before .loop .at in
@@ -111,8 +110,7 @@ loop-again c =
     let told = run .ensures .1 ∙ ap (λ (k : Command). write (lineAnswer k (session (l .s) (l .memory))) (page (l .out) (l .printed))) asked in
     let next = run .ensures .0 ∙ ap (λ (k : Command). sessionAfter k (session (l .s) (l .memory))) asked in
     let room = turn-keeps-room script (l .out) _ (l .at) (l .printed) (run .result .at) _ _ more (l .inv .0) (l .inv .3) told next in
-    let answers = turn-keeps-answers script (l .out) _ (l .at) (l .printed) (run .result .at) _ _ more (l .inv .0) (l .inv .3) told next _ (l .inv .4) in
-    (
+    let answers = turn-keeps-answers script (l .out) _ (l .at) (l .printed) (run .result .at) _ _ more (l .inv .0) (l .inv .3) told next _ (l .inv .4) in (
       run .kept .1 .1 .1 .0 ∙ l .inv .0,
       run .kept .1 .0 ∙ l .inv .1,
       omega (arith, len, length-at-most rest, length-drop (l .at) script, c .before .before .before .before .before .before .before .before .before .before .before .before .before .before .before .before .pre .0, c .before .before .before .before .before .before .before .before .before .before .loop-test .taken),
@@ -125,8 +123,7 @@ same-length c = c .before .loop .inv .0 ∙ sym (c .before .before .before .befo
 
 returns : tie.Need-returns Inv-loop μ-loop
 returns c =
-    let l = c .before .loop in
-    (
+    let l = c .before .loop in (
       sym (append-nil (take (l .printed) (l .out))) ∙ ap (λ (t : List ℕ). take (l .printed) (l .out) ++ t) (answers-none (c .before .before .before .before .before .before .args .script .now) (l .at) (session (l .s) (l .memory)) (c .loop-test .left)) ∙ l .inv .4,
       omega arith,
     )

@@ -38,13 +38,12 @@ loop-again c =
     let l = c .before .before .before .before .before .before .loop in
     let v = c .before .before .before .before .before .before .before .before .args .v in
     let here = page (l .out) (l .place) in
-    let put = c .before .before .put .ensures ∙ ap (λ (b : ℕ). writeByte b here) (c .before .before .before .digit-byte .ensures) in
-    (
+    let put = c .before .before .put .ensures ∙ ap (λ (b : ℕ). writeByte b here) (c .before .before .before .digit-byte .ensures) in (
       omega arith,
       c .before .before .put .kept .0 ∙ l .inv .1,
       ap (write (hex (l .left - 1) v)) put
-      ∙ sym (write-hex (l .left) v here (c .before .before .before .before .before .loop-test .taken))
-      ∙ l .inv .2,
+          ∙ sym (write-hex (l .left) v here (c .before .before .before .before .before .loop-test .taken))
+          ∙ l .inv .2,
     )
 
 same-length : tie.Need-same-length Inv-loop μ-loop

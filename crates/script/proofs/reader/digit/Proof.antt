@@ -35,8 +35,7 @@ add-result c = search needs
 returns-4 : tie.Need-returns-4
 unfolding digitOf
 returns-4 c =
-    let b = c .before .before .before .before .args .b in
-    (
+    let b = c .before .before .before .before .args .b in (
       rw (
         le-leb 48 b (omega arith),
         lt-leb b 57 (omega arith),
@@ -49,8 +48,7 @@ returns-4 c =
 returns-5 : tie.Need-returns-5
 unfolding digitOf
 returns-5 c =
-    let b = c .before .before .before .before .args .b in
-    (
+    let b = c .before .before .before .before .args .b in (
       rw (
         le-leb 48 b (omega arith),
         lt-leb b 57 (omega arith),

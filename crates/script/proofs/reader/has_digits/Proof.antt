@@ -45,12 +45,11 @@ loop-less : tie.Need-loop-less Inv-loop μ-loop
 loop-less c = search needs
 
 loop-again : tie.Need-loop-again Inv-loop μ-loop
-loop-again c =
-    (
-      omega arith,
-      below-more _ _ (c .before .before .before .before .loop .inv .1)
+loop-again c = (
+  omega arith,
+  below-more _ _ (c .before .before .before .before .loop .inv .1)
       (ap isDigitOf (sym (c .before .before .byte .ensures)) ∙ sym (c .before .is-digit .ensures) ∙ not-false _ (c .if1 .left)),
-    )
+)
 
 returns-2 : tie.Need-returns-2 Inv-loop μ-loop
 returns-2 c =

@@ -52,12 +52,11 @@ unfolding numberAt
 loop-again c =
     let i = c .before .before .before .loop .i in
     let start = c .before .before .before .before .before in
-    let digit = c .digit .ensures .0 ∙ ap digitOf (c .before .byte .ensures) in
-    (
+    let digit = c .digit .ensures .0 ∙ ap digitOf (c .before .byte .ensures) in (
       omega arith,
       rw (add-one i)
-      (ap (λ (n : ℕ). 16 * n + c .digit .result) (c .before .before .before .loop .inv .1)
-      ∙ ap (λ (d : ℕ). 16 * numberAt (start .args .line .now) (start .args .at) i + d) digit),
+          (ap (λ (n : ℕ). 16 * n + c .digit .result) (c .before .before .before .loop .inv .1)
+          ∙ ap (λ (d : ℕ). 16 * numberAt (start .args .line .now) (start .args .at) i + d) digit),
       rw (add-one i, pow-succ' 16 i) (omega arith),
     )
 
