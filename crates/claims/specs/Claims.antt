@@ -9,6 +9,8 @@
 --     write_memory           calls/specs/Calls, writeMemoryOf, and memoryAfterOf for the memory after it
 --     read_memory            calls/specs/Calls, readMemoryOf; the memory is lent for reading only
 --     tick                   calls/specs/Calls, tickOf; the memory is lent for reading only
+-- The console's one function is proved in the crate `script`, the same way:
+--     answers                script/specs/Answers, answersOf; what it prints always fits
 -- That a function is proved says besides that it does nothing undefined and that it ends.
 -- Assumes nothing.
 use Prim.Native.Nat.{ℕ, _<_}
