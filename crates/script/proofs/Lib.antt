@@ -3,4 +3,4 @@ pub mod ReaderLaws
 pub mod PageLaws
 pub mod FitLaws
 pub mod RunLaws
-pub mod AnswersLaws
+pub mod ScriptLaws
