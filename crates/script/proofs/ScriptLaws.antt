@@ -1,5 +1,4 @@
 -- What follows from the definitions of a script's answers.
---     lines-append          lines that are ended are not changed by what follows
 --     lines-end             a last line without its newline reads as with it
 --     lines-append          the lines up to a newline do not depend on the bytes after it
 --     answers-so-far        nor does what they print
