@@ -20,7 +20,7 @@ use Rattle.branch.specs.Branch.{queueDepth, held}
 use Rattle.branch.specs.declared.Branch.{Branch}
 use Rattle.branches.specs.ReadoutFields.{branchAt}
 use Rattle.sequencer.specs.States.{isUndecided}
-use Rattle.sequencer.specs.declared.main_sequencer.State.{State}
+use Rattle.sequencer.specs.declared.states.State.{State}
 use Rattle.supervisor.specs.declared.Supervisor.{Supervisor}
 use Rattle.account.specs.AccountFields.{Sums, Account}
 

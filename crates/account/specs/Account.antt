@@ -25,7 +25,7 @@ use Rattle.registers.specs.declared.register.Register.the-variants.{Interval, T
 use Rattle.branch.specs.Slots.{wordsIn}
 use Rattle.branches.specs.Readout.{noSide}
 use Rattle.sequencer.specs.States.{outcomeWords, isCleared, isEvent, isTag}
-use Rattle.sequencer.specs.declared.main_sequencer.Outcome.{Outcome}
+use Rattle.sequencer.specs.declared.states.Outcome.{Outcome}
 use Rattle.scalers.specs.Scalers.{isSome}
 use Rattle.core.specs.Lines.{hasStrobe}
 use Rattle.core.specs.declared.lines.Inputs.{Inputs}

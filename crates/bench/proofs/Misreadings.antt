@@ -9,7 +9,7 @@ use mathlib.Core.List.{List, [], _∷_, _++_}
 use lib.ListN.{length}
 use Rattle.calls.specs.Answers.{Reply}
 use Rattle.calls.specs.Runs.{Ask, readRegister}
-use Rattle.sequencer.specs.declared.main_sequencer.State.the-variants.{Idle, Space}
+use Rattle.sequencer.specs.declared.states.State.the-variants.{Idle, Space}
 use Rattle.bench.specs.Asks.{csr, factor, rocEnable, scaler0, forceSync, enableSync, firstController}
 use Rattle.bench.specs.Asks.{write, store, pulse, acknowledge, ticks, event, class1}
 use Rattle.bench.specs.Sessions.{repliesTo, passed, shown1, readOut, mainAfter, held1After}

@@ -7,8 +7,8 @@ use mathlib.Core.List.{List, [], _∷_, _++_}
 use Rattle.branch.specs.declared.Slot.{Slot}
 use Rattle.branch.specs.declared.Slot.the-variants as slot
 use Rattle.branches.specs.declared.Side.{Side}
-use Rattle.sequencer.specs.declared.main_sequencer.Outcome.{Outcome}
-use Rattle.sequencer.specs.declared.main_sequencer.Outcome.the-variants as outcome
+use Rattle.sequencer.specs.declared.states.Outcome.{Outcome}
+use Rattle.sequencer.specs.declared.states.Outcome.the-variants as outcome
 use Rattle.calls.specs.Answers.{Reply, done, ticked}
 use Rattle.calls.specs.Runs.{Ask}
 use Rattle.bench.specs.Asks.{csr, control, write, store, pulse, ticks}

@@ -15,7 +15,7 @@ use Rattle.branch.specs.Slots.{wordsIn}
 use Rattle.branches.specs.Readout.{moduleBranches, noSide}
 use Rattle.branches.specs.ReadoutFields.{branchAt}
 use Rattle.sequencer.specs.States.{isCleared, outcomeWords}
-use Rattle.sequencer.specs.declared.main_sequencer.State.{State}
+use Rattle.sequencer.specs.declared.states.State.{State}
 use Rattle.supervisor.specs.Supervisor.{freshOf}
 use Rattle.supervisor.specs.declared.Supervisor.{Supervisor}
 use Rattle.supervisor.specs.declared.Answer.{Answer}

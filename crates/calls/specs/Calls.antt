@@ -14,7 +14,7 @@ use Rattle.bits.specs.Notation.{if_then_else_, _▷_}
 use Rattle.registers.specs.Csr as csr
 use Rattle.registers.specs.Registers.{numberedOf, isValidValue}
 use Rattle.branches.specs.Readout.{noSide}
-use Rattle.sequencer.specs.declared.main_sequencer.Outcome.the-variants as outcome
+use Rattle.sequencer.specs.declared.states.Outcome.the-variants as outcome
 use Rattle.core.specs.CoreFields.{withCsr}
 use Rattle.core.specs.declared.lines.Inputs.{Inputs}
 use Rattle.supervisor.specs.Supervisor.{withCore, isActiveOf, isSpoiledOf, tickedOf}

@@ -10,7 +10,7 @@ use core::Masks;
 use core::lines::Inputs;
 use registers::csr::Csr;
 use registers::register::Register;
-use sequencer::main_sequencer::Outcome;
+use sequencer::states::Outcome;
 use supervisor::Answer;
 use supervisor::Supervisor;
 

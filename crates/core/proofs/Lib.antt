@@ -1,5 +1,4 @@
 -- The laws, in the order of reading; the proofs of functions stand in folders of their own. Assumes nothing.
-pub mod CoreChoices
 pub mod CoreParts
 pub mod CoreEvents
 pub mod CoreLaws

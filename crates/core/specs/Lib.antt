@@ -2,4 +2,3 @@
 pub mod Lines
 pub mod CoreFields
 pub mod Core
-pub mod CoreHalves

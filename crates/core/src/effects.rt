@@ -12,8 +12,8 @@ use prescaler::Prescaled;
 use registers::csr::Csr;
 use scalers::Signals;
 use sequencer::main_sequencer::MainStep;
-use sequencer::main_sequencer::Outcome;
 use sequencer::memory_word::is_ok_word;
+use sequencer::states::Outcome;
 use sync::counter::SyncCounter;
 use sync::user::UserStep;
 use sync::user::UserSync;
@@ -29,34 +29,27 @@ pub fn word_at(memory: &[u16], pattern: u32) -> u16
     0
 }
 
-// [Ready.2] [Ready.4] [Ready.5] with none passed the memory is not read
-pub fn latched_pulses(ready: bool, passed: u32, memory: &[u16]) -> Latch
-    ensures { λ r. ⌜ r ≡ latchOf ready (isOkWord (wordAtOf (now (memory .entry)) passed)) passed ⌝ }
+// [Ready.2] [Ready.4] [Ready.5]
+pub fn latched_pulses(ready: bool, word: u16, passed: u32) -> Latch
+    ensures { λ r. ⌜ r ≡ latchOf ready (isOkWord word) passed ⌝ }
 {
-    if !ready {
-        return Latch {
-            lost: passed,
-            rejected: 0,
-            accepted: 0,
-        };
-    }
-    if passed == 0 {
-        return Latch {
-            lost: 0,
-            rejected: 0,
-            accepted: 0,
-        };
-    }
-    if is_ok_word(word_at(memory, passed)) {
+    if ready {
+        if is_ok_word(word) {
+            return Latch {
+                lost: 0,
+                rejected: 0,
+                accepted: passed,
+            };
+        }
         return Latch {
             lost: 0,
-            rejected: 0,
-            accepted: passed,
+            rejected: passed,
+            accepted: 0,
         };
     }
     Latch {
-        lost: 0,
-        rejected: passed,
+        lost: passed,
+        rejected: 0,
         accepted: 0,
     }
 }

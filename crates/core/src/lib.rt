@@ -1,10 +1,8 @@
 // The core of the supervisor: all of the record but the branches (document 01, "The tick"). It sees the branches
 // through two facts, every one empty and every one below its depth. The definitions are in specs/Core.antt.
 ghost use mathlib.Core.Path.{_≡_};
-ghost use Rattle.core.specs.Core.{freshOf, resetOf, pulsedOf, isOpenOf, wordAtOf};
-ghost use Rattle.core.specs.Core.{testsOf};
+ghost use Rattle.core.specs.Core.{freshOf, resetOf, pulsedOf, isOpenOf, testsOf, cycleStepOf, mainStepOf};
 ghost use Rattle.core.specs.Core.{settledOf, stepOf, linesOutOf, isActiveOf, allowsEightOf, isSoundOf};
-ghost use Rattle.core.specs.CoreHalves.{idleStepOf, idleHalfOf, cycleHalfOf};
 use prescaler::Prescaled;
 use prescaler::Prescalers;
 use registers::control::Control;
@@ -14,9 +12,9 @@ use registers::register::is_valid_control;
 use scalers::Scalers;
 use sequencer::main_sequencer::MainSequencer;
 use sequencer::main_sequencer::MainStep;
-use sequencer::main_sequencer::Outcome;
 use sequencer::main_sequencer::Tests;
 use sequencer::main_sequencer::quiet_step;
+use sequencer::states::Outcome;
 use sync::counter::SyncCounter;
 use sync::user::UserStep;
 use sync::user::UserSync;
@@ -183,59 +181,45 @@ impl Core {
         }
     }
 
-    // [Ready.5] an accepted pattern starts a cycle
-    fn idle_step(self, latch: Latch, memory: &[u16], passed: u32) -> MainStep
-        ensures { λ r. ⌜ r ≡ idleStepOf latch (wordAtOf (now (memory .entry)) passed) self ⌝ }
+    // [Main.1] the age rises first
+    fn cycle_step(self, lines: Lines, room: bool, empty: bool) -> MainStep
+        ensures { λ r. ⌜ r ≡ cycleStepOf room empty lines self ⌝ }
     {
-        let main = self.main;
-        if latch.accepted == 0 {
-            return quiet_step(main);
-        }
-        quiet_step(main.accepted(word_at(memory, passed)))
-    }
-
-    fn at_idle(self, lines: Lines, p: Prescaled, memory: &[u16], empty: bool) -> CoreStep
-        ensures { λ r. ⌜ r ≡ idleHalfOf empty lines p (now (memory .entry)) self ⌝ }
-    {
-        let csr = self.csr;
-        let user = self.user;
-        let passed = p.passed;
-        let latch = latched_pulses(self.is_open(lines), passed, memory);
-        let m = self.idle_step(latch, memory, passed);
-        let u = user.step(csr.wants_user_sync(), true, empty);
-        self.settled(lines, p, latch, m, u)
-    }
-
-    fn in_cycle(self, lines: Lines, p: Prescaled, room: bool, empty: bool) -> CoreStep
-        ensures { λ r. ⌜ r ≡ cycleHalfOf room empty lines p self ⌝ }
-    {
-        let csr = self.csr;
-        let user = self.user;
         let main = self.main;
         let aged = main.aged();
-        let t = self.tests(lines, aged.age, room, empty);
-        let m = aged.step(t);
-        let u = user.step(csr.wants_user_sync(), false, empty);
-        let latch = Latch {
-            lost: p.passed,
-            rejected: 0,
-            accepted: 0,
-        };
-        self.settled(lines, p, latch, m, u)
+        aged.step(self.tests(lines, aged.age, room, empty))
+    }
+
+    // [Ready.5] an accepted pattern starts a cycle; at Idle nothing else moves
+    fn main_step(self, lines: Lines, latch: Latch, word: u16, room: bool, empty: bool) -> MainStep
+        ensures { λ r. ⌜ r ≡ mainStepOf room empty lines latch word self ⌝ }
+    {
+        let main = self.main;
+        let state = main.state;
+        if latch.accepted != 0 {
+            return quiet_step(main.accepted(word));
+        }
+        if state.is_idle() {
+            return quiet_step(main);
+        }
+        self.cycle_step(lines, room, empty)
     }
 
     // A tick; room and empty are what the core sees of the branches.
     pub fn step(self, x: Inputs, memory: &[u16], room: bool, empty: bool) -> CoreStep
         ensures { λ r. ⌜ r ≡ stepOf room empty x (now (memory .entry)) self ⌝ }
     {
+        let csr = self.csr;
         let main = self.main;
         let state = main.state;
+        let user = self.user;
         let lines = x.lines;
         let p = self.pulsed(x);
-        if state.is_idle() {
-            return self.at_idle(lines, p, memory, empty);
-        }
-        self.in_cycle(lines, p, room, empty)
+        let word = word_at(memory, p.passed);
+        let latch = latched_pulses(state.is_idle() & self.is_open(lines), word, p.passed);
+        let m = self.main_step(lines, latch, word, room, empty);
+        let u = user.step(csr.wants_user_sync(), state.is_idle(), empty);
+        self.settled(lines, p, latch, m, u)
     }
 
     // [Answer.1]

@@ -15,7 +15,7 @@ use registers::control::Control;
 use registers::csr::Csr;
 use scalers::Scalers;
 use sequencer::main_sequencer::MainSequencer;
-use sequencer::main_sequencer::Outcome;
+use sequencer::states::Outcome;
 use supervisor::Answer;
 use supervisor::Supervisor;
 use sync::counter::SyncCounter;

@@ -24,10 +24,10 @@ use Rattle.sequencer.specs.MainFields.{quiet}
 use Rattle.sequencer.specs.States.{isIdle, isLoaded, isEvent, isTag}
 use Rattle.sequencer.specs.MainSequencer as main
 use Rattle.sequencer.proofs.MainLaws.{step-loads-in-order, aged-keeps-state}
-use Rattle.sequencer.specs.declared.main_sequencer.State.{State}
-use Rattle.sequencer.specs.declared.main_sequencer.State.the-variants.{Idle, Delay, Wait2, Wait3}
-use Rattle.sequencer.specs.declared.main_sequencer.State.the-variants.{Front, Space, SyncHold, Clear}
-use Rattle.sequencer.specs.declared.main_sequencer.Outcome.the-variants.{Tag}
+use Rattle.sequencer.specs.declared.states.State.{State}
+use Rattle.sequencer.specs.declared.states.State.the-variants.{Idle, Delay, Wait2, Wait3}
+use Rattle.sequencer.specs.declared.states.State.the-variants.{Front, Space, SyncHold, Clear}
+use Rattle.sequencer.specs.declared.states.Outcome.the-variants.{Tag}
 use Rattle.sequencer.specs.declared.main_sequencer.MainStep.{MainStep}
 use Rattle.sync.specs.UserSync.{tagWord}
 use Rattle.sync.specs.SyncCounter as counter

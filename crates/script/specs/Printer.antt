@@ -12,8 +12,8 @@ use Rattle.branch.specs.declared.Slot.{Slot}
 use Rattle.branch.specs.declared.Slot.the-variants as slot
 use Rattle.branches.specs.Readout.{noSide}
 use Rattle.branches.specs.declared.Side.{Side}
-use Rattle.sequencer.specs.declared.main_sequencer.Outcome.{Outcome}
-use Rattle.sequencer.specs.declared.main_sequencer.Outcome.the-variants.{Nothing, Cleared, Event, Tag}
+use Rattle.sequencer.specs.declared.states.Outcome.{Outcome}
+use Rattle.sequencer.specs.declared.states.Outcome.the-variants.{Nothing, Cleared, Event, Tag}
 use Rattle.supervisor.specs.declared.Answer.{Answer}
 use Rattle.calls.specs.Answers.{Reply, declined, done, value, ticked}
 use Rattle.script.specs.Text.{newline, space, hex}

@@ -16,7 +16,7 @@ use calls::Decline;
 use calls::Reading;
 use calls::Verdict;
 use core::Masks;
-use sequencer::main_sequencer::Outcome;
+use sequencer::states::Outcome;
 use supervisor::Answer;
 
 // ---- short answers

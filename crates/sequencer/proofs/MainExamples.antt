@@ -10,9 +10,9 @@ use Rattle.bits.specs.Notation.{_▷_}
 use Rattle.sequencer.specs.MemoryWord.{isOkWord, classInOf}
 use Rattle.sequencer.specs.MainFields.{withState, withClass, withClear, withCode, withLate, withRaised, withAge}
 use Rattle.sequencer.specs.MainSequencer.{idleOf, agedOf, acceptedOf, stepOf, wordOf}
-use Rattle.sequencer.specs.declared.main_sequencer.State.{State}
-use Rattle.sequencer.specs.declared.main_sequencer.State.the-variants.{Idle, Delay, Wait2, Wait3}
-use Rattle.sequencer.specs.declared.main_sequencer.State.the-variants.{Front, Space, SyncHold, Clear}
+use Rattle.sequencer.specs.declared.states.State.{State}
+use Rattle.sequencer.specs.declared.states.State.the-variants.{Idle, Delay, Wait2, Wait3}
+use Rattle.sequencer.specs.declared.states.State.the-variants.{Front, Space, SyncHold, Clear}
 use Rattle.sequencer.specs.declared.main_sequencer.MainSequencer.{MainSequencer}
 use Rattle.sequencer.specs.declared.main_sequencer.Tests.{Tests}
 

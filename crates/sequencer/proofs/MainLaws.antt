@@ -32,9 +32,9 @@ use Rattle.sequencer.specs.MainSequencer.{passes2ToDelay, passes2ToWait3
 use Rattle.sequencer.specs.MainSequencer.{loads, leavesSpace, endsSyncHold, countsClear, endsClear}
 use Rattle.sequencer.specs.MainSequencer.{moveInWait2, moveInWait3, moveIn, wordOf, afterLoad, stepBy, stepOf}
 use Rattle.sequencer.specs.MainSequencer.{WellFormedMain}
-use Rattle.sequencer.specs.declared.main_sequencer.State.{State}
-use Rattle.sequencer.specs.declared.main_sequencer.State.the-variants.{Idle, Delay, Wait2, Wait3}
-use Rattle.sequencer.specs.declared.main_sequencer.State.the-variants.{Front, Space, SyncHold, Clear}
+use Rattle.sequencer.specs.declared.states.State.{State}
+use Rattle.sequencer.specs.declared.states.State.the-variants.{Idle, Delay, Wait2, Wait3}
+use Rattle.sequencer.specs.declared.states.State.the-variants.{Front, Space, SyncHold, Clear}
 use Rattle.sequencer.specs.declared.main_sequencer.MainSequencer.{MainSequencer}
 use Rattle.sequencer.specs.declared.main_sequencer.Tests.{Tests}
 use Rattle.sequencer.specs.declared.main_sequencer.MainStep.{MainStep}

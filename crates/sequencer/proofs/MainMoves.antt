@@ -10,9 +10,9 @@ use Rattle.sequencer.specs.MainSequencer.{Level, level2, level3, Move, s
 use Rattle.sequencer.specs.MainSequencer.{passes2ToDelay, passes2ToWait3, passes3, loads, leavesSpace}
 use Rattle.sequencer.specs.MainSequencer.{endsSyncHold, countsClear, endsClear, failsLate, failsAndClears}
 use Rattle.sequencer.specs.MainSequencer.{moveInWait2, moveInWait3, moveInClear, bothAccepts, moveIn}
-use Rattle.sequencer.specs.declared.main_sequencer.State.{State}
-use Rattle.sequencer.specs.declared.main_sequencer.State.the-variants.{Idle, Delay, Wait2, Wait3}
-use Rattle.sequencer.specs.declared.main_sequencer.State.the-variants.{Front, Space, SyncHold, Clear}
+use Rattle.sequencer.specs.declared.states.State.{State}
+use Rattle.sequencer.specs.declared.states.State.the-variants.{Idle, Delay, Wait2, Wait3}
+use Rattle.sequencer.specs.declared.states.State.the-variants.{Front, Space, SyncHold, Clear}
 use Rattle.sequencer.specs.declared.main_sequencer.MainSequencer.{MainSequencer}
 use Rattle.sequencer.specs.declared.main_sequencer.Tests.{Tests}
 

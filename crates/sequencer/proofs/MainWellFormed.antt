@@ -18,8 +18,8 @@ use Rattle.sequencer.specs.States.{isIdle, isWait2}
 use Rattle.sequencer.specs.MainSequencer.{ageLimit, codeLimit, okLine, start2Line, raise, idleOf, agedOf, acceptedOf}
 use Rattle.sequencer.specs.MainSequencer.{Move, afterLoad, stepBy, stepOf, isClassOfWait2, isWellFormedOf}
 use Rattle.sequencer.specs.MainSequencer.{WellFormedMain}
-use Rattle.sequencer.specs.declared.main_sequencer.State.{State}
-use Rattle.sequencer.specs.declared.main_sequencer.State.the-variants.{Delay, Wait2}
+use Rattle.sequencer.specs.declared.states.State.{State}
+use Rattle.sequencer.specs.declared.states.State.the-variants.{Delay, Wait2}
 use Rattle.sequencer.specs.declared.main_sequencer.MainSequencer.{MainSequencer}
 use Rattle.sequencer.specs.declared.main_sequencer.Tests.{Tests}
 use Rattle.sequencer.proofs.MainMoves.{MovesIn, staysIn, delayWaits, delayEnds, wait2FailsLate, wait2Fails}

@@ -8,7 +8,7 @@ use Rattle.bits.specs.Notation.{if_then_else_, _▷_}
 use Rattle.sequencer.specs.MainFields.{withFailed2, withFailed3}
 use Rattle.sequencer.specs.MainSequencer.{moveIn, moveInWait2, moveInWait3, stepBy, stepOf}
 use Rattle.sequencer.specs.MainSequencer.{lateStep, clearedStep}
-use Rattle.sequencer.specs.declared.main_sequencer.State.{State}
+use Rattle.sequencer.specs.declared.states.State.{State}
 use Rattle.sequencer.specs.declared.main_sequencer.MainSequencer.{MainSequencer}
 use Rattle.sequencer.specs.declared.main_sequencer.Tests.{Tests}
 

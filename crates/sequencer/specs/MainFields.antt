@@ -4,9 +4,9 @@
 -- Assumes nothing.
 use Prim.Native.Nat.{ℕ}
 use mathlib.Core.Bool.{Bool, true, false}
-use Rattle.sequencer.specs.declared.main_sequencer.State.{State}
-use Rattle.sequencer.specs.declared.main_sequencer.Outcome.{Outcome}
-use Rattle.sequencer.specs.declared.main_sequencer.Outcome.the-variants.{Nothing}
+use Rattle.sequencer.specs.declared.states.State.{State}
+use Rattle.sequencer.specs.declared.states.Outcome.{Outcome}
+use Rattle.sequencer.specs.declared.states.Outcome.the-variants.{Nothing}
 use Rattle.sequencer.specs.declared.main_sequencer.MainSequencer.{MainSequencer}
 use Rattle.sequencer.specs.declared.main_sequencer.MainStep.{MainStep}
 

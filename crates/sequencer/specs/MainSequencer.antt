@@ -20,10 +20,10 @@ use Rattle.sequencer.specs.MainFields.{withAge, withState, withClear, wi
 use Rattle.sequencer.specs.MainFields.{withRaised, withLate, quiet, withOutcome, withLateMark, withSync}
 use Rattle.sequencer.specs.MainFields.{withEnded, withFailed2, withFailed3}
 use Rattle.sequencer.specs.States.{isIdle, isWait2}
-use Rattle.sequencer.specs.declared.main_sequencer.State.{State}
-use Rattle.sequencer.specs.declared.main_sequencer.State.the-variants.{Idle, Delay, Wait2, Wait3}
-use Rattle.sequencer.specs.declared.main_sequencer.State.the-variants.{Front, Space, SyncHold, Clear}
-use Rattle.sequencer.specs.declared.main_sequencer.Outcome.the-variants.{Cleared, Event}
+use Rattle.sequencer.specs.declared.states.State.{State}
+use Rattle.sequencer.specs.declared.states.State.the-variants.{Idle, Delay, Wait2, Wait3}
+use Rattle.sequencer.specs.declared.states.State.the-variants.{Front, Space, SyncHold, Clear}
+use Rattle.sequencer.specs.declared.states.Outcome.the-variants.{Cleared, Event}
 use Rattle.sequencer.specs.declared.main_sequencer.MainSequencer.{MainSequencer}
 use Rattle.sequencer.specs.declared.main_sequencer.Tests.{Tests}
 use Rattle.sequencer.specs.declared.main_sequencer.MainStep.{MainStep}

@@ -8,11 +8,11 @@
 use Prim.Native.Nat.{ℕ}
 use mathlib.Core.Bool.{Bool, true, false, not}
 use mathlib.Core.List.{List, [], _∷_}
-use Rattle.sequencer.specs.declared.main_sequencer.State.{State}
-use Rattle.sequencer.specs.declared.main_sequencer.State.the-variants.{Idle, Delay, Wait2, Wait3}
-use Rattle.sequencer.specs.declared.main_sequencer.State.the-variants.{Front, Space, SyncHold, Clear}
-use Rattle.sequencer.specs.declared.main_sequencer.Outcome.{Outcome}
-use Rattle.sequencer.specs.declared.main_sequencer.Outcome.the-variants.{Nothing, Cleared, Event, Tag}
+use Rattle.sequencer.specs.declared.states.State.{State}
+use Rattle.sequencer.specs.declared.states.State.the-variants.{Idle, Delay, Wait2, Wait3}
+use Rattle.sequencer.specs.declared.states.State.the-variants.{Front, Space, SyncHold, Clear}
+use Rattle.sequencer.specs.declared.states.Outcome.{Outcome}
+use Rattle.sequencer.specs.declared.states.Outcome.the-variants.{Nothing, Cleared, Event, Tag}
 
 -- ---- the states
 

@@ -1,52 +1,14 @@
 // The main sequencer (document 01, "The tick", Main): from an accepted pattern to a loaded word, or to a clear.
 // The definitions are in specs/MainSequencer.antt: a move for each sentence, and what each move changes.
 ghost use mathlib.Core.Path.{_≡_};
-ghost use mathlib.Core.Bool.{Bool, true, false};
-ghost use lib.Dec.{eqb, ltb};
-ghost use Rattle.bits.specs.Notation.{if_then_else_};
-ghost use Rattle.bits.specs.Bits.{setOf};
-ghost use Rattle.sequencer.specs.MainFields.{quiet, withState, withRaised};
-ghost use Rattle.sequencer.specs.States.{isIdle, isLoaded, isWait2, isEvent};
-ghost use Rattle.sequencer.specs.MainSequencer.{idleOf, agedOf, acceptedOf, isClearing, wordOf};
-ghost use Rattle.sequencer.specs.MainSequencer.{isClassOfWait2, isWellFormedOf};
-ghost use Rattle.sequencer.specs.MainSequencer.{moveIn, lateStep, clearedStep, failStep, stepBy, stepOf};
-ghost use Rattle.sequencer.specs.declared.main_sequencer.State.the-variants.{Delay, Wait2, Wait3};
-ghost use Rattle.sequencer.specs.declared.main_sequencer.State.the-variants.{Front, Space, SyncHold, Clear};
+ghost use Rattle.sequencer.specs.MainFields.{quiet};
+ghost use Rattle.sequencer.specs.MainSequencer.{idleOf, agedOf, acceptedOf, isClearing};
+ghost use Rattle.sequencer.specs.MainSequencer.{isClassOfWait2, isWellFormedOf, stepOf};
 use super::memory_word::accept_in;
 use super::memory_word::class_in;
 use super::memory_word::code_in;
-
-pub enum State {
-    Idle,
-    Delay,
-    Wait2,
-    Wait3,
-    Front,
-    Space,
-    SyncHold,
-    Clear,
-}
-
-// What became of an event in a tick, or the tag of a user sync.
-pub enum Outcome {
-    Nothing,
-    Cleared,
-    Event(u8),
-    Tag(u8),
-}
-
-impl Outcome {
-    pub fn is_event(self) -> bool
-        ensures { λ r. ⌜ r ≡ isEvent self ⌝ }
-    {
-        match self {
-            Outcome::Nothing => false,
-            Outcome::Cleared => false,
-            Outcome::Event(w) => true,
-            Outcome::Tag(w) => false
-        }
-    }
-}
+use super::states::Outcome;
+use super::states::State;
 
 pub struct MainSequencer {
     // ticks since the accept, at most AGE_LIMIT
@@ -101,74 +63,10 @@ pub struct MainStep {
     pub failed3: bool,
 }
 
-impl State {
-    // [Main.1] every other state is in a cycle
-    pub fn is_idle(self) -> bool
-        ensures { λ r. ⌜ r ≡ isIdle self ⌝ }
-    {
-        match self {
-            State::Idle => true,
-            State::Delay => false,
-            State::Wait2 => false,
-            State::Wait3 => false,
-            State::Front => false,
-            State::Space => false,
-            State::SyncHold => false,
-            State::Clear => false,
-        }
-    }
-
-    // [Spoiled.1f] the event is loaded, and main waits for the branches
-    pub fn is_loaded(self) -> bool
-        ensures { λ r. ⌜ r ≡ isLoaded self ⌝ }
-    {
-        match self {
-            State::Idle => false,
-            State::Delay => false,
-            State::Wait2 => false,
-            State::Wait3 => false,
-            State::Front => false,
-            State::Space => true,
-            State::SyncHold => true,
-            State::Clear => false,
-        }
-    }
-
-    fn is_wait2(self) -> bool
-        ensures { λ r. ⌜ r ≡ isWait2 self ⌝ }
-    {
-        match self {
-            State::Idle => false,
-            State::Delay => false,
-            State::Wait2 => true,
-            State::Wait3 => false,
-            State::Front => false,
-            State::Space => false,
-            State::SyncHold => false,
-            State::Clear => false,
-        }
-    }
-}
-
 fn is_class_of_wait2(class: u8) -> bool
     ensures { λ r. ⌜ r ≡ isClassOfWait2 class ⌝ }
 {
     (class == 2) | (class == 3)
-}
-
-fn raised_if(raised: u8, t: bool, line: u8) -> u8
-    ensures { λ r. ⌜ r ≡ (if t then setOf line raised else raised) ⌝ }
-{
-    if t {
-        return raised | line;
-    }
-    raised
-}
-
-fn state_after_load(sync: bool) -> State
-    ensures { λ r. ⌜ r ≡ (if sync then SyncHold else Space) ⌝ }
-{
-    if sync { State::SyncHold } else { State::Space }
 }
 
 // Nothing but the sequencer itself.
@@ -253,29 +151,6 @@ impl MainSequencer {
         0 < self.clear
     }
 
-    fn with_state(self, state: State) -> MainSequencer
-        ensures { λ r. ⌜ r ≡ withState state self ⌝ }
-    {
-        MainSequencer {
-            age: self.age,
-            state,
-            clear: self.clear,
-            class: self.class,
-            code: self.code,
-            accept: self.accept,
-            raised: self.raised,
-            late: self.late,
-        }
-    }
-
-    fn with_raised(self, raised: u8) -> MainSequencer
-        ensures { λ r. ⌜ r ≡ withRaised raised self ⌝ }
-    {
-        let mut next = self;
-        next.raised = raised;
-        next
-    }
-
     // [Ready.5] [Main.2] a pattern is accepted, with the memory's word
     pub fn accepted(self, word: u16) -> MainSequencer
         ensures { λ r. ⌜ r ≡ acceptedOf word self ⌝ }
@@ -292,160 +167,6 @@ impl MainSequencer {
         }
         next.raised = next.raised | MainSequencer::START2;
         next.with_state(State::Wait2)
-    }
-
-    // [Main.9] code, sync, late
-    fn word(self, sync: bool) -> u8
-        ensures { λ r. ⌜ r ≡ wordOf sync self ⌝ }
-    {
-        let code = (self.code % 16) as u32;
-        ((code + 16 * bits::one_if(sync) + 32 * bits::one_if(self.late)) % 256) as u8
-    }
-
-    // [Main.7] each accept line at its own time; both up: Front
-    fn in_delay(self, t: Tests) -> MainStep
-        ensures { λ r. ⌜ r ≡ stepBy (moveIn Delay t self) t self ⌝ }
-    {
-        let raised = raised_if(self.raised, t.due2, MainSequencer::ACCEPT2);
-        let next = self.with_raised(raised_if(raised, t.due3, MainSequencer::ACCEPT3));
-        let accept2 = self.raised / 4 % 2 == 1;
-        let accept3 = self.raised / 16 % 2 == 1;
-        if (accept2 | t.due2) & (accept3 | t.due3) {
-            return quiet_step(next.with_state(State::Front));
-        }
-        quiet_step(next)
-    }
-
-    // [Main.6] a late fail
-    fn failed_late(self) -> MainStep
-        ensures { λ r. ⌜ r ≡ lateStep self ⌝ }
-    {
-        let mut marked = self;
-        marked.late = true;
-        let mut step = quiet_step(marked.with_state(State::Front));
-        step.late = true;
-        step
-    }
-
-    // [Main.6] any other fail
-    fn failed(self, clear: u8) -> MainStep
-        ensures { λ r. ⌜ r ≡ clearedStep clear self ⌝ }
-    {
-        let mut counting = self;
-        counting.clear = clear;
-        let next = counting.with_state(State::Clear);
-        MainStep {
-            next,
-            outcome: Outcome::Cleared,
-            late: false,
-            sync: false,
-            ended: false,
-            failed2: false,
-            failed3: false,
-        }
-    }
-
-    fn failed_in(self, t: Tests) -> MainStep
-        ensures { λ r. ⌜ r ≡ failStep t self ⌝ }
-    {
-        if t.late {
-            return self.failed_late();
-        }
-        self.failed(t.clear)
-    }
-
-    // [Main.3] [Main.4] [Main.6]
-    fn in_wait2(self, t: Tests) -> MainStep
-        ensures { λ r. ⌜ r ≡ stepBy (moveIn Wait2 t self) t self ⌝ }
-    {
-        if t.fail2 {
-            let mut step = self.failed_in(t);
-            step.failed2 = true;
-            return step;
-        }
-        if t.pass2 {
-            let raised = self.raised | MainSequencer::ACCEPT2;
-            if self.class == 2 {
-                return quiet_step(self.with_raised(raised).with_state(State::Delay));
-            }
-            let next = self.with_raised(raised | MainSequencer::START3);
-            return quiet_step(next.with_state(State::Wait3));
-        }
-        quiet_step(self)
-    }
-
-    // [Main.5] [Main.6]
-    fn in_wait3(self, t: Tests) -> MainStep
-        ensures { λ r. ⌜ r ≡ stepBy (moveIn Wait3 t self) t self ⌝ }
-    {
-        if t.fail3 {
-            let mut step = self.failed_in(t);
-            step.failed3 = true;
-            return step;
-        }
-        if t.pass3 {
-            let next = self.with_raised(self.raised | MainSequencer::ACCEPT3);
-            return quiet_step(next.with_state(State::Front));
-        }
-        quiet_step(self)
-    }
-
-    // [Main.8] [Main.12] the event is loaded
-    fn in_front(self, t: Tests) -> MainStep
-        ensures { λ r. ⌜ r ≡ stepBy (moveIn Front t self) t self ⌝ }
-    {
-        if t.front {
-            let word = self.word(t.sync);
-            let next = self.with_state(state_after_load(t.sync));
-            return MainStep {
-                next,
-                outcome: Outcome::Event(word),
-                late: false,
-                sync: t.sync,
-                ended: false,
-                failed2: false,
-                failed3: false,
-            };
-        }
-        quiet_step(self)
-    }
-
-    // [Main.13]
-    fn in_space(self, t: Tests) -> MainStep
-        ensures { λ r. ⌜ r ≡ stepBy (moveIn Space t self) t self ⌝ }
-    {
-        if t.room {
-            return quiet_step(MainSequencer::idle());
-        }
-        quiet_step(self)
-    }
-
-    // [Main.14]
-    fn in_sync_hold(self, t: Tests) -> MainStep
-        ensures { λ r. ⌜ r ≡ stepBy (moveIn SyncHold t self) t self ⌝ }
-    {
-        if t.empty {
-            let mut step = quiet_step(MainSequencer::idle());
-            step.ended = true;
-            return step;
-        }
-        quiet_step(self)
-    }
-
-    // [Main.15]
-    fn in_clear(self, t: Tests) -> MainStep
-        ensures { λ r. ⌜ r ≡ stepBy (moveIn Clear t self) t self ⌝ }
-    {
-        let clear = self.clear;
-        if 0 < clear {
-            let mut next = self;
-            next.clear = clear - 1;
-            return quiet_step(next);
-        }
-        if t.front {
-            return quiet_step(MainSequencer::idle());
-        }
-        quiet_step(self)
     }
 
     // One tick of a sequencer whose age has risen.

@@ -11,8 +11,8 @@ use Rattle.branch.specs.Slots.{wordsIn, isWordOf}
 use Rattle.branch.specs.declared.Slot.the-variants as slot
 use Rattle.branches.specs.Readout as readout
 use Rattle.sequencer.specs.States.{outcomeWords}
-use Rattle.sequencer.specs.declared.main_sequencer.Outcome.{Outcome}
-use Rattle.sequencer.specs.declared.main_sequencer.Outcome.the-variants.{Nothing, Cleared, Event, Tag}
+use Rattle.sequencer.specs.declared.states.Outcome.{Outcome}
+use Rattle.sequencer.specs.declared.states.Outcome.the-variants.{Nothing, Cleared, Event, Tag}
 use Rattle.core.specs.Core as core
 use Rattle.core.proofs.CoreParts.{isLoad}
 use Rattle.supervisor.specs.Supervisor.{loadOf, isSpoiledOf}

@@ -17,9 +17,9 @@ use Rattle.branch.specs.declared.Slot.the-variants.{Nothing, Word}
 use Rattle.branches.specs.Readout as readout
 use Rattle.branches.specs.declared.Readout.{Readout}
 use Rattle.branches.specs.declared.ReadoutStep.{ReadoutStep}
-use Rattle.sequencer.specs.declared.main_sequencer.Outcome.{Outcome}
-use Rattle.sequencer.specs.declared.main_sequencer.Outcome.the-variants.{Cleared, Event, Tag}
-use Rattle.sequencer.specs.declared.main_sequencer.Outcome.the-variants as outcome
+use Rattle.sequencer.specs.declared.states.Outcome.{Outcome}
+use Rattle.sequencer.specs.declared.states.Outcome.the-variants.{Cleared, Event, Tag}
+use Rattle.sequencer.specs.declared.states.Outcome.the-variants as outcome
 use Rattle.core.specs.Core as core
 use Rattle.core.specs.declared.lines.Inputs.{Inputs}
 use Rattle.core.specs.declared.Core.{Core}

@@ -13,7 +13,7 @@ use core::Core;
 use core::CoreStep;
 use core::Masks;
 use core::lines::Inputs;
-use sequencer::main_sequencer::Outcome;
+use sequencer::states::Outcome;
 
 pub struct Supervisor {
     // what each module of a group would have

@@ -2,8 +2,8 @@
 -- Written by tools/prove.py; the answers to `returns` by hand. Assumes nothing.
 use mathlib.Core.Path.{_∙_}
 use borrow.Author.Needs.{needs}
-use Rattle.sequencer.specs.declared.main_sequencer.State.the-variants.{Idle, Delay, Wait2, Wait3}
-use Rattle.sequencer.specs.declared.main_sequencer.State.the-variants.{Front, Space, SyncHold, Clear}
+use Rattle.sequencer.specs.declared.states.State.the-variants.{Idle, Delay, Wait2, Wait3}
+use Rattle.sequencer.specs.declared.states.State.the-variants.{Front, Space, SyncHold, Clear}
 use Rattle.sequencer.proofs.SequencerChoices.{step-by-state}
 use Rattle.sequencer.proofs.main_sequencer.MainSequencer.step.Statement.{statement}
 use Rattle.sequencer.proofs.main_sequencer.MainSequencer.step.Tie as tie

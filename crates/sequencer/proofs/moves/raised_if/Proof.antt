@@ -1,8 +1,8 @@
--- `sequencer::main_sequencer::raised_if` meets its contract: one return for each choice.
+-- `sequencer::moves::raised_if` meets its contract: one return for each choice.
 -- Written by tools/prove.py; no answer was changed by hand. Assumes nothing.
 use borrow.Author.Needs.{needs}
-use Rattle.sequencer.proofs.main_sequencer.raised_if.Statement.{statement}
-use Rattle.sequencer.proofs.main_sequencer.raised_if.Tie as tie
+use Rattle.sequencer.proofs.moves.raised_if.Statement.{statement}
+use Rattle.sequencer.proofs.moves.raised_if.Tie as tie
 
 returns : tie.Need-returns
 returns c = rw (c .if1 .taken)

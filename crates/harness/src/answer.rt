@@ -1,0 +1,140 @@
+// Numbers of an answer. An answer is 8: 0 or the number of the decline; the value read; the masks by two, and the last
+// with the lines out; outcome; finished words; shown words.
+use crate::record_out::wide;
+use branch::Slot;
+use branches::Side;
+use calls::Decline;
+use calls::ReadDone;
+use calls::Reading;
+use calls::TickDone;
+use calls::Verdict;
+use calls::WriteDone;
+use sequencer::states::Outcome;
+use supervisor::Supervisor;
+
+// What a call leaves.
+pub struct Reply {
+    pub next: Supervisor,
+    pub numbers: [u64; 8],
+}
+
+// document 01's number for each decline
+fn decline_number(why: Decline) -> u64 {
+    match why {
+        Decline::Spoiled => 1,
+        Decline::Length => 2,
+        Decline::Place => 3,
+        Decline::Active => 4,
+        Decline::Value => 5
+    }
+}
+
+fn verdict_number(verdict: Verdict) -> u64 {
+    match verdict {
+        Verdict::Done => 0,
+        Verdict::Declined(why) => decline_number(why)
+    }
+}
+
+fn slot_number(slot: Slot) -> u64 {
+    match slot {
+        Slot::Nothing => 0,
+        Slot::Word(w) => 256 | w as u64
+    }
+}
+
+fn outcome_number(outcome: Outcome) -> u64 {
+    match outcome {
+        Outcome::Nothing => 0,
+        Outcome::Cleared => 256,
+        Outcome::Event(w) => 512 | w as u64,
+        Outcome::Tag(w) => 768 | w as u64
+    }
+}
+
+fn finished_number(side: Side) -> u64 {
+    let finished = side.finished;
+    slot_number(finished)
+}
+
+fn shown_number(side: Side) -> u64 {
+    let shown = side.shown;
+    slot_number(shown)
+}
+
+fn pair(low: u32, high: u32) -> u64 {
+    wide(low) | wide(high) << 32
+}
+
+fn four(n0: u64, n1: u64, n2: u64, n3: u64) -> u64 {
+    n0 | n1 << 16 | n2 << 32 | n3 << 48
+}
+
+pub fn write_reply(r: WriteDone) -> Reply {
+    let next = r.next;
+    let answer = r.answer;
+    Reply {
+        next,
+        numbers: [verdict_number(answer), 0, 0, 0, 0, 0, 0, 0],
+    }
+}
+
+pub fn read_reply(r: ReadDone) -> Reply {
+    let next = r.next;
+    let answer = r.answer;
+    match answer {
+        Reading::Value(value) => Reply {
+            next,
+            numbers: [0, wide(value), 0, 0, 0, 0, 0, 0],
+        },
+        Reading::Declined(why) => Reply {
+            next,
+            numbers: [decline_number(why), 0, 0, 0, 0, 0, 0, 0],
+        }
+    }
+}
+
+pub fn tick_reply(r: TickDone) -> Reply {
+    let next = r.next;
+    let verdict = r.verdict;
+    let answer = r.answer;
+    let m = answer.masks;
+    let outcome = answer.outcome;
+    let sides = answer.sides;
+    let s0 = sides[0];
+    let s1 = sides[1];
+    let s2 = sides[2];
+    let s3 = sides[3];
+    let finished = four(
+        finished_number(s0),
+        finished_number(s1),
+        finished_number(s2),
+        finished_number(s3),
+    );
+    let shown = four(
+        shown_number(s0),
+        shown_number(s1),
+        shown_number(s2),
+        shown_number(s3),
+    );
+    Reply {
+        next,
+        numbers: [
+            verdict_number(verdict),
+            0,
+            pair(m.stopped, m.scaled),
+            pair(m.lost, m.rejected),
+            pair(m.accepted, answer.lines),
+            outcome_number(outcome),
+            finished,
+            shown,
+        ],
+    }
+}
+
+pub fn fresh_reply() -> Reply {
+    Reply {
+        next: Supervisor::fresh(),
+        numbers: [0, 0, 0, 0, 0, 0, 0, 0],
+    }
+}
