@@ -11,14 +11,8 @@ const END_OF_SCRIPT: u8 = 30;
 // One byte more than the longest script that is run.
 const LONG: usize = 65537;
 
-fn output_buffer() -> [u8; script::CAPACITY]
-    ensures { λ r. ⌜ 327680 ≡ length r ⌝ }
-{
-    [0; script::CAPACITY]
-}
-
 fn run(script: &[u8]) {
-    let mut out = output_buffer();
+    let mut out = script::output_buffer();
     let printed = script::answers(script, &mut out);
     io::write_all(STDOUT_FILENO, &out[..printed]);
     io::write_all(STDOUT_FILENO, b"--\n");

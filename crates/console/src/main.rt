@@ -21,12 +21,6 @@ fn input_buffer() -> [u8; INPUT]
     [0; INPUT]
 }
 
-fn output_buffer() -> [u8; script::CAPACITY]
-    ensures { λ r. ⌜ 327680 ≡ length r ⌝ }
-{
-    [0; script::CAPACITY]
-}
-
 // [Console.1] reads until the buffer is full, the input ends or a read fails; a read may bring less than was asked for
 fn read_all(buf: &mut [u8]) -> Input
     ensures { λ r. ⌜ r .len ≤ length (now (buf .exit)) ⌝ }
@@ -63,7 +57,7 @@ fn main() {
         return;
     }
     let len = input.len;
-    let mut out = output_buffer();
+    let mut out = script::output_buffer();
     let printed = script::answers(&buf[..len], &mut out);
     if !io::write_all(STDOUT_FILENO, &out[..printed]) {
         os::fail(b"standard output");

@@ -6,12 +6,13 @@
 -- Assumes nothing.
 use Prim.Native.Nat.{ℕ, zero, suc, _+_, _-_, _*_, _/_, _%_, _^_, _<_, _≤_}
 use mathlib.Core.Path.{_≡_, refl}
+use mathlib.Core.Bool.{true, false}
 use mathlib.Core.List.{List, [], _∷_, _++_}
 use native.Mathlib.Omega.{arith}
 use Rattle.supervisor.specs.declared.Answer.{Answer}
 use Rattle.script.specs.Text.{newline, space, hexDigit, hex}
 use Rattle.script.specs.Printer.{outcomeText, fieldsOf, spaced}
-use Rattle.script.specs.Parts.{maskPart, masksPart, slotPart, finishedPart, shownPart}
+use Rattle.script.specs.Parts.{maskPart, masksPart, slotPart, sidesPart}
 use Rattle.script.specs.Page.{Page, write, writeByte}
 
 pub write-append : (a b : List ℕ) (p : Page) → write (a ++ b) p ≡ write b (write a p)
@@ -32,10 +33,10 @@ write-5 a b c d e p = rw (write-append a (b ++ (c ++ (d ++ e))) p, write-4 b c d
 pub tick-by-parts : (a : Answer) (p : Page) →
     write (spaced (fieldsOf a)) p
     ≡ writeByte newline
-    (write (shownPart (a .sides))
-    (write (finishedPart (a .sides))
+    (write (sidesPart true (a .sides))
+    (write (sidesPart false (a .sides))
     (write (outcomeText (a .outcome)) (writeByte space (write (hex 4 (a .lines)) (write (masksPart (a .masks)) p))))))
-unfolding write maskPart masksPart slotPart finishedPart shownPart
+unfolding write maskPart masksPart slotPart sidesPart
 tick-by-parts a p = simp write-append
 
 -- ---- digits

@@ -30,6 +30,10 @@ use Rattle.script.specs.declared.reader.Command.the-variants.{ReadMemory
 abbrev pub scriptLimit : ℕ
 scriptLimit = 65536
 
+-- how long the buffer is that the answers are printed in: five bytes for each byte of script
+abbrev pub capacity : ℕ
+capacity = 327680
+
 -- [Console.5] a line of other form, a bad first line, a longer script
 abbrev pub malformed : ℕ
 malformed = 6

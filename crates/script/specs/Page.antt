@@ -10,10 +10,6 @@ use lib.Dec.{ltb}
 use lib.ListN.{length, set}
 use Rattle.bits.specs.Notation.{if_then_else_}
 
--- five bytes of answer for each byte of script
-abbrev pub capacity : ℕ
-capacity = 327680
-
 pub record Page : Type 0 where
   pub bytes : List ℕ
   pub at : ℕ

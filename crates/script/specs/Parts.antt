@@ -1,11 +1,13 @@
 -- A tick's answer in the parts that the code prints, each by a function of its own. A buyer need not believe it: what
 -- the parts make together is `spaced (fieldsOf a)` (proofs/PageLaws.antt).
 --     masksPart                  the five masks, a space after each
---     finishedPart, shownPart    four slots, a space before each
+--     sidesPart                  what the four branches show, or finished, a space before each
 -- Own rules of 01 used here: none. Decisions: none. Left out: nothing.
 -- Assumes nothing.
 use Prim.Native.Nat.{ℕ}
+use mathlib.Core.Bool.{Bool}
 use mathlib.Core.List.{List, [], _∷_, _++_}
+use Rattle.bits.specs.Notation.{if_then_else_}
 use Rattle.branch.specs.declared.Slot.{Slot}
 use Rattle.branches.specs.declared.Side.{Side}
 use Rattle.core.specs.declared.Masks.{Masks}
@@ -23,12 +25,12 @@ masksPart m =
 unfoldable pub slotPart : Slot → List ℕ
 slotPart slot = space ∷ slotText slot
 
-unfoldable pub finishedPart : List Side → List ℕ
-finishedPart sides =
-    slotPart (sideAt sides 0 .finished)
-    ++ (slotPart (sideAt sides 1 .finished) ++ (slotPart (sideAt sides 2 .finished) ++ slotPart (sideAt sides 3 .finished)))
+-- the word that a branch shows, or that it finished
+abbrev pub slotOf : (shown : Bool) → Side → Slot
+slotOf shown side = if shown then side .shown else side .finished
 
-unfoldable pub shownPart : List Side → List ℕ
-shownPart sides =
-    slotPart (sideAt sides 0 .shown)
-    ++ (slotPart (sideAt sides 1 .shown) ++ (slotPart (sideAt sides 2 .shown) ++ slotPart (sideAt sides 3 .shown)))
+unfoldable pub sidesPart : (shown : Bool) → List Side → List ℕ
+sidesPart shown sides =
+    slotPart (slotOf shown (sideAt sides 0))
+    ++ (slotPart (slotOf shown (sideAt sides 1))
+    ++ (slotPart (slotOf shown (sideAt sides 2)) ++ slotPart (slotOf shown (sideAt sides 3))))

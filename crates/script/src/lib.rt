@@ -5,8 +5,8 @@ ghost use Prim.Native.Nat.{_+_, _≤_};
 ghost use lib.ListN.{take, drop, length};
 ghost use Rattle.calls.specs.Runs.{zeroMemory};
 ghost use Rattle.script.specs.Reader.{linesOf};
-ghost use Rattle.script.specs.Answers.{scriptLimit, freshSession, isSameOf, isHeaderOf, answersFrom, answersOf};
-ghost use Rattle.script.specs.Page.{capacity};
+ghost use Rattle.script.specs.Answers.{scriptLimit, capacity, freshSession};
+ghost use Rattle.script.specs.Answers.{isSameOf, isHeaderOf, answersFrom, answersOf};
 
 mod page;
 mod printer;
@@ -24,8 +24,15 @@ use supervisor::Supervisor;
 // [Console.1]
 pub const SCRIPT_LIMIT: usize = 65536;
 
-// Five bytes of answer for each byte of script are enough.
+// Five bytes of answer for each byte of script: enough for every script.
 pub const CAPACITY: usize = 327680;
+
+// A buffer for `answers` to print in.
+pub fn output_buffer() -> [u8; CAPACITY]
+    ensures { λ r. ⌜ capacity ≡ length r ⌝ }
+{
+    [0; CAPACITY]
+}
 
 fn is_same(a: &[u8], b: &[u8]) -> bool
     ensures { λ r. ⌜ r ≡ isSameOf (now (a .entry)) (now (b .entry)) ⌝ }

@@ -6,7 +6,7 @@ ghost use mathlib.Core.List.{[], _∷_, _++_};
 ghost use Rattle.calls.specs.Answers.{declineNumber, verdictReply, readingReply, tickReply, ticked};
 ghost use Rattle.script.specs.Text.{newline, hex};
 ghost use Rattle.script.specs.Printer.{outcomeText, slotText, noText, okText, replyText};
-ghost use Rattle.script.specs.Parts.{maskPart, masksPart, slotPart, finishedPart, shownPart};
+ghost use Rattle.script.specs.Parts.{maskPart, masksPart, slotPart, slotOf, sidesPart};
 ghost use Rattle.script.specs.Page.{page, write};
 use crate::page::put;
 use crate::page::put_hex;
@@ -144,34 +144,23 @@ fn put_part(out: &mut [u8], at: usize, slot: Slot) -> usize
     put_slot(out, part, slot)
 }
 
-fn finished_by(side: Side) -> Slot
-    ensures { λ r. ⌜ r ≡ side .finished ⌝ }
+// The word that a branch shows, or that it finished.
+fn slot_of(side: Side, shown: bool) -> Slot
+    ensures { λ r. ⌜ r ≡ slotOf shown side ⌝ }
 {
+    if shown {
+        return side.shown;
+    }
     side.finished
 }
 
-fn shown_by(side: Side) -> Slot
-    ensures { λ r. ⌜ r ≡ side .shown ⌝ }
+fn put_sides(out: &mut [u8], at: usize, sides: [Side; 4], shown: bool) -> usize
+    ensures { λ r. ⌜ page (now (out .exit)) r ≡ write (sidesPart shown sides) (page (now (out .entry)) at) ⌝ }
 {
-    side.shown
-}
-
-fn put_finished(out: &mut [u8], at: usize, sides: [Side; 4]) -> usize
-    ensures { λ r. ⌜ page (now (out .exit)) r ≡ write (finishedPart sides) (page (now (out .entry)) at) ⌝ }
-{
-    let first = put_part(out, at, finished_by(sides[0]));
-    let second = put_part(out, first, finished_by(sides[1]));
-    let third = put_part(out, second, finished_by(sides[2]));
-    put_part(out, third, finished_by(sides[3]))
-}
-
-fn put_shown(out: &mut [u8], at: usize, sides: [Side; 4]) -> usize
-    ensures { λ r. ⌜ page (now (out .exit)) r ≡ write (shownPart sides) (page (now (out .entry)) at) ⌝ }
-{
-    let first = put_part(out, at, shown_by(sides[0]));
-    let second = put_part(out, first, shown_by(sides[1]));
-    let third = put_part(out, second, shown_by(sides[2]));
-    put_part(out, third, shown_by(sides[3]))
+    let first = put_part(out, at, slot_of(sides[0], shown));
+    let second = put_part(out, first, slot_of(sides[1], shown));
+    let third = put_part(out, second, slot_of(sides[2], shown));
+    put_part(out, third, slot_of(sides[3], shown))
 }
 
 // [Console.7] masks, lines, outcome, finished, shown
@@ -185,8 +174,8 @@ fn put_answer(out: &mut [u8], at: usize, a: Answer) -> usize
     let lined = put_hex(out, masked, 4, a.lines);
     let parted = put(out, lined, b' ');
     let decided = put_outcome(out, parted, outcome);
-    let finished = put_finished(out, decided, sides);
-    let shown = put_shown(out, finished, sides);
+    let finished = put_sides(out, decided, sides, false);
+    let shown = put_sides(out, finished, sides, true);
     put(out, shown, b'\n')
 }
 

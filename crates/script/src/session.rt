@@ -1,6 +1,9 @@
 // A console session (document 01, "Console program"): each line is one public call, and its answer is printed. The
 // definitions are in specs/Answers.antt.
 ghost use mathlib.Core.Path.{_≡_};
+ghost use Prim.Native.Nat.{_≤_};
+ghost use Rattle.calls.specs.Answers.{verdictReply, readingReply, tickReply};
+ghost use Rattle.script.specs.Printer.{replyText};
 ghost use Rattle.script.specs.Answers.{session, inputsOf, lineAnswer, sessionAfter};
 ghost use Rattle.script.specs.Page.{page, write};
 use crate::printer::put_no;
@@ -8,6 +11,9 @@ use crate::printer::put_reading;
 use crate::printer::put_tick;
 use crate::printer::put_verdict;
 use crate::reader::Command;
+use calls::ReadDone;
+use calls::TickDone;
+use calls::WriteDone;
 use calls::read_memory;
 use calls::read_register;
 use calls::tick;
@@ -41,6 +47,47 @@ fn inputs(triggers: u32, lines: u32, acks: u32) -> Inputs
     }
 }
 
+// [Console.5] what a write leaves, its answer printed
+fn wrote(out: &mut [u8], at: usize, done: WriteDone) -> LineDone
+    ensures { λ r. ⌜ r .next ≡ done .next ⌝ }
+    ensures { λ r. ⌜ page (now (out .exit)) (r .at) ≡ write (replyText 0 (verdictReply (done .answer))) (page (now (out .entry)) at) ⌝ }
+{
+    let next = done.next;
+    let answer = done.answer;
+    LineDone {
+        next,
+        at: put_verdict(out, at, answer),
+    }
+}
+
+// [Console.5] what a read leaves, its value printed in so many digits
+fn gave(out: &mut [u8], at: usize, digits: u32, done: ReadDone) -> LineDone
+    requires { ⌜ digits ≤ 8 ⌝ }
+    ensures { λ r. ⌜ r .next ≡ done .next ⌝ }
+    ensures { λ r. ⌜ page (now (out .exit)) (r .at) ≡ write (replyText digits (readingReply (done .answer))) (page (now (out .entry)) at) ⌝ }
+{
+    let next = done.next;
+    let answer = done.answer;
+    LineDone {
+        next,
+        at: put_reading(out, at, digits, answer),
+    }
+}
+
+// [Console.7] what a tick leaves, its fields printed
+fn ran(out: &mut [u8], at: usize, done: TickDone) -> LineDone
+    ensures { λ r. ⌜ r .next ≡ done .next ⌝ }
+    ensures { λ r. ⌜ page (now (out .exit)) (r .at) ≡ write (replyText 0 (tickReply (done .verdict) (done .answer))) (page (now (out .entry)) at) ⌝ }
+{
+    let next = done.next;
+    let verdict = done.verdict;
+    let answer = done.answer;
+    LineDone {
+        next,
+        at: put_tick(out, at, verdict, answer),
+    }
+}
+
 // [Console.5] the one place where a line becomes a call
 pub fn run_line(
     s: Supervisor,
@@ -54,50 +101,17 @@ pub fn run_line(
 {
     match command {
         Command::WriteRegister(number, value) => {
-            let done = write_register(s, number, value);
-            let next = done.next;
-            let answer = done.answer;
-            LineDone {
-                next,
-                at: put_verdict(out, at, answer),
-            }
+            wrote(out, at, write_register(s, number, value))
         }
         Command::ReadRegister(number) => {
-            let done = read_register(s, number);
-            let next = done.next;
-            let answer = done.answer;
-            LineDone {
-                next,
-                at: put_reading(out, at, REGISTER_DIGITS, answer),
-            }
+            gave(out, at, REGISTER_DIGITS, read_register(s, number))
         }
         Command::WriteMemory(place, word) => {
-            let done = write_memory(s, memory, place, word);
-            let next = done.next;
-            let answer = done.answer;
-            LineDone {
-                next,
-                at: put_verdict(out, at, answer),
-            }
+            wrote(out, at, write_memory(s, memory, place, word))
         }
-        Command::ReadMemory(place) => {
-            let done = read_memory(s, memory, place);
-            let next = done.next;
-            let answer = done.answer;
-            LineDone {
-                next,
-                at: put_reading(out, at, WORD_DIGITS, answer),
-            }
-        }
+        Command::ReadMemory(place) => { gave(out, at, WORD_DIGITS, read_memory(s, memory, place)) }
         Command::Tick(triggers, lines, acks) => {
-            let done = tick(s, memory, inputs(triggers, lines, acks));
-            let next = done.next;
-            let verdict = done.verdict;
-            let answer = done.answer;
-            LineDone {
-                next,
-                at: put_tick(out, at, verdict, answer),
-            }
+            ran(out, at, tick(s, memory, inputs(triggers, lines, acks)))
         }
         Command::Other => LineDone {
             next: s,

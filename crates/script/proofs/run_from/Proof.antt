@@ -1,5 +1,6 @@
--- `script::run_from` meets its contract: WHY.
--- Written by tools/prove.py; no answer was changed by hand. Assumes nothing.
+-- `script::run_from` meets its contract: what is printed so far, followed by the answers of the lines left, is always
+-- the answer of the whole; a line's answer fits because five bytes are kept for each byte of script left. Written by
+-- tools/prove.py; no answer was changed by hand. Assumes nothing.
 use Prim.Native.Nat.{ℕ, _+_, _-_, _*_, _<_, _≤_}
 use mathlib.Core.Path.{_≡_, refl, sym, ap, _∙_}
 use mathlib.Core.List.{List, [], _++_, append-nil}
@@ -9,8 +10,9 @@ use lib.Seq.{take-all}
 use borrow.Author.Needs.{needs}
 use Rattle.calls.specs.Calls.{memoryPlaces}
 use Rattle.script.specs.Reader.{linesOf, firstLineOf}
-use Rattle.script.specs.Answers.{scriptLimit, session, freshSession, lineAnswer, sessionAfter, answersFrom}
-use Rattle.script.specs.Page.{capacity, page, write}
+use Rattle.script.specs.Answers.{scriptLimit, capacity, session, freshSession, lineAnswer, sessionAfter}
+use Rattle.script.specs.Answers.{answersFrom}
+use Rattle.script.specs.Page.{page, write}
 use Rattle.script.specs.declared.reader.Command.{Command}
 use Rattle.script.specs.declared.reader.Line.{Line}
 use Rattle.script.proofs.ReaderLaws.{length-at-most}

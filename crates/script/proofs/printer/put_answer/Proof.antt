@@ -1,5 +1,5 @@
--- `script::printer::put_answer` meets its contract: WHY.
--- Written by tools/prove.py; `returns` was changed by hand. Assumes nothing.
+-- `script::printer::put_answer` meets its contract: the six parts one after the other are the fields with their spaces
+-- (`tick-by-parts`). Written by tools/prove.py; `returns` was changed by hand. Assumes nothing.
 use Rattle.script.specs.Page.{page}
 use Rattle.script.proofs.PageLaws.{tick-by-parts}
 use mathlib.Core.Path.{sym}
@@ -19,11 +19,11 @@ put-requires c κs = search needs
 put-outcome-requires : tie.Need-put-outcome-requires
 put-outcome-requires c κs = search needs
 
-put-finished-requires : tie.Need-put-finished-requires
-put-finished-requires c κs = search needs
+put-sides-requires : tie.Need-put-sides-requires
+put-sides-requires c κs = search needs
 
-put-shown-requires : tie.Need-put-shown-requires
-put-shown-requires c κs = search needs
+put-sides-requires-2 : tie.Need-put-sides-requires-2
+put-sides-requires-2 c κs = search needs
 
 put-requires-2 : tie.Need-put-requires-2
 put-requires-2 c κs = search needs
@@ -36,8 +36,8 @@ returns c =
     let args = c .before .before .before .before .before .before .before .before .before .before .before .before .before .before .before .before .before .before .before .before .before .before .before .before .before .before .before .before .before .before .before .args in
     rw (
       c .before .before .put2 .ensures,
-      c .before .before .before .before .before .before .put-shown .ensures,
-      c .before .before .before .before .before .before .before .before .before .before .put-finished .ensures,
+      c .before .before .before .before .before .before .put-sides2 .ensures,
+      c .before .before .before .before .before .before .before .before .before .before .put-sides .ensures,
       c .before .before .before .before .before .before .before .before .before .before .before .before .before .before .put-outcome .ensures,
       c .before .before .before .before .before .before .before .before .before .before .before .before .before .before .before .before .before .before .put .ensures,
       c .before .before .before .before .before .before .before .before .before .before .before .before .before .before .before .before .before .before .before .before .before .before .put-hex .ensures,
@@ -53,8 +53,8 @@ put-answer-spec =
     put-hex-requires
     put-requires
     put-outcome-requires
-    put-finished-requires
-    put-shown-requires
+    put-sides-requires
+    put-sides-requires-2
     put-requires-2
     same-length
     returns)

@@ -1,5 +1,5 @@
--- `script::printer::put_mask` meets its contract: WHY.
--- Written by tools/prove.py; `returns` was changed by hand. Assumes nothing.
+-- `script::printer::put_mask` meets its contract: the digits, then the space; two writes are the write of their join
+-- (`write-append`). Written by tools/prove.py; `returns` was changed by hand. Assumes nothing.
 use Rattle.script.specs.Page.{write}
 use Rattle.script.proofs.PageLaws.{write-append}
 use Rattle.script.specs.Parts.{maskPart}

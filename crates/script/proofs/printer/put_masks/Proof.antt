@@ -1,5 +1,5 @@
--- `script::printer::put_masks` meets its contract: WHY.
--- Written by tools/prove.py; `returns` was changed by hand. Assumes nothing.
+-- `script::printer::put_masks` meets its contract: five masks one after the other; the writes are the write of their
+-- join (`write-5`). Written by tools/prove.py; `returns` was changed by hand. Assumes nothing.
 use Rattle.script.specs.Page.{write}
 use Rattle.script.proofs.PageLaws.{write-5}
 use Rattle.script.specs.Parts.{masksPart}

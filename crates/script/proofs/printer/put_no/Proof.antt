@@ -1,5 +1,5 @@
--- `script::printer::put_no` meets its contract: WHY.
--- Written by tools/prove.py; no answer was changed by hand. Assumes nothing.
+-- `script::printer::put_no` meets its contract: five bytes one after the other, which `write` takes in turn. Written by
+-- tools/prove.py; no answer was changed by hand. Assumes nothing.
 use Rattle.script.specs.Page.{write}
 use borrow.Author.Needs.{needs}
 use Rattle.script.proofs.printer.put_no.Statement.{statement}

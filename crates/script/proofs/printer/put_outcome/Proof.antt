@@ -1,4 +1,4 @@
--- `script::printer::put_outcome` meets its contract: WHY.
+-- `script::printer::put_outcome` meets its contract: in each case of the outcome its letter is written, then its word.
 -- Written by tools/prove.py; no answer was changed by hand. Assumes nothing.
 use Rattle.script.specs.Page.{write}
 use borrow.Author.Needs.{needs}

@@ -1,5 +1,5 @@
--- `script::printer::put_part` meets its contract: WHY.
--- Written by tools/prove.py; no answer was changed by hand. Assumes nothing.
+-- `script::printer::put_part` meets its contract: the space, then the slot, which `write` takes in turn. Written by
+-- tools/prove.py; no answer was changed by hand. Assumes nothing.
 use Rattle.script.specs.Page.{write}
 use Rattle.script.specs.Parts.{slotPart}
 use borrow.Author.Needs.{needs}

@@ -1,4 +1,4 @@
--- `script::printer::put_reading` meets its contract: WHY.
+-- `script::printer::put_reading` meets its contract: in each case of the reading the one call's contract is the answer.
 -- Written by tools/prove.py; no answer was changed by hand. Assumes nothing.
 use Rattle.script.specs.Page.{write}
 use borrow.Author.Needs.{needs}

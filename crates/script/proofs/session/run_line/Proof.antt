@@ -1,5 +1,6 @@
--- `script::session::run_line` meets its contract: WHY.
--- Written by tools/prove.py; each `returns` was given twice, for the session and for the page. Assumes nothing.
+-- `script::session::run_line` meets its contract: in each case of the command the call's contract gives the next record
+-- and memory, and the printing function's gives the page. Written by tools/prove.py; the answers to `returns` were
+-- written by hand. Assumes nothing.
 use borrow.Author.Needs.{needs}
 use Rattle.script.proofs.session.run_line.Statement.{statement}
 use Rattle.script.proofs.session.run_line.Tie as tie
@@ -10,8 +11,8 @@ enum-known-command c = search needs
 write-register-requires : tie.Need-write-register-requires
 write-register-requires c κs = search needs
 
-put-verdict-requires : tie.Need-put-verdict-requires
-put-verdict-requires c κs = search needs
+wrote-requires : tie.Need-wrote-requires
+wrote-requires c κs = search needs
 
 enum-known-command-2 : tie.Need-enum-known-command-2
 enum-known-command-2 c = search needs
@@ -19,8 +20,8 @@ enum-known-command-2 c = search needs
 read-register-requires : tie.Need-read-register-requires
 read-register-requires c κs = search needs
 
-put-reading-requires : tie.Need-put-reading-requires
-put-reading-requires c κs = search needs
+gave-requires : tie.Need-gave-requires
+gave-requires c κs = search needs
 
 enum-known-command-3 : tie.Need-enum-known-command-3
 enum-known-command-3 c = search needs
@@ -28,8 +29,8 @@ enum-known-command-3 c = search needs
 write-memory-requires : tie.Need-write-memory-requires
 write-memory-requires c κs = search needs
 
-put-verdict-requires-2 : tie.Need-put-verdict-requires-2
-put-verdict-requires-2 c κs = search needs
+wrote-requires-2 : tie.Need-wrote-requires-2
+wrote-requires-2 c κs = search needs
 
 enum-known-command-4 : tie.Need-enum-known-command-4
 enum-known-command-4 c = search needs
@@ -37,8 +38,8 @@ enum-known-command-4 c = search needs
 read-memory-requires : tie.Need-read-memory-requires
 read-memory-requires c κs = search needs
 
-put-reading-requires-2 : tie.Need-put-reading-requires-2
-put-reading-requires-2 c κs = search needs
+gave-requires-2 : tie.Need-gave-requires-2
+gave-requires-2 c κs = search needs
 
 enum-known-command-5 : tie.Need-enum-known-command-5
 enum-known-command-5 c = search needs
@@ -49,8 +50,8 @@ inputs-requires c κs = search needs
 tick-requires : tie.Need-tick-requires
 tick-requires c κs = search needs
 
-put-tick-requires : tie.Need-put-tick-requires
-put-tick-requires c κs = search needs
+ran-requires : tie.Need-ran-requires
+ran-requires c κs = search needs
 
 enum-told : tie.Need-enum-told
 enum-told c = search needs
@@ -63,20 +64,20 @@ same-length c = search needs
 
 returns : tie.Need-returns
 returns c =
-    let printed = c .before .before .put-verdict .ensures in
-    let done = c .before .before .before .before .before .write-register .ensures in
-    let asked = c .before .before .before .before .before .before .before .command .given .1 in
-    (rw (done, asked), rw (printed, done, asked))
+    let printed = c .before .before .wrote .ensures in
+    let done = c .before .before .before .write-register .ensures in
+    let asked = c .before .before .before .before .before .before .command .given .1 in
+    (rw (printed .0, done, asked), rw (printed .1, done, asked))
 
 same-length-2 : tie.Need-same-length-2
 same-length-2 c = search needs
 
 returns-2 : tie.Need-returns-2
 returns-2 c =
-    let printed = c .before .before .put-reading .ensures in
-    let done = c .before .before .before .before .before .read-register .ensures in
-    let asked = c .before .before .before .before .before .before .before .command2 .given .1 in
-    (rw (done, asked), rw (printed, done, asked))
+    let printed = c .before .before .gave .ensures in
+    let done = c .before .before .before .read-register .ensures in
+    let asked = c .before .before .before .before .before .before .command2 .given .1 in
+    (rw (printed .0, done, asked), rw (printed .1, done, asked))
 
 same-length-3 : tie.Need-same-length-3
 same-length-3 c = search needs
@@ -86,10 +87,10 @@ same-length-4 c = search needs
 
 returns-3 : tie.Need-returns-3
 returns-3 c =
-    let printed = c .before .before .put-verdict2 .ensures in
-    let done = c .before .before .before .before .before .before .before .write-memory .ensures in
-    let asked = c .before .before .before .before .before .before .before .before .before .before .command3 .given .1 in
-    (rw (done .0, done .1, asked), rw (printed, done .0, asked))
+    let printed = c .before .before .wrote2 .ensures in
+    let done = c .before .before .before .before .before .write-memory .ensures in
+    let asked = c .before .before .before .before .before .before .before .before .before .command3 .given .1 in
+    (rw (printed .0, done .0, done .1, asked), rw (printed .1, done .0, asked))
 
 same-length-5 : tie.Need-same-length-5
 same-length-5 c = search needs
@@ -99,10 +100,10 @@ same-length-6 c = search needs
 
 returns-4 : tie.Need-returns-4
 returns-4 c =
-    let printed = c .before .before .put-reading2 .ensures in
-    let done = c .before .before .before .before .before .read-memory .ensures in
-    let asked = c .before .before .before .before .before .before .before .before .command4 .given .1 in
-    (rw (done, asked), rw (printed, done, asked))
+    let printed = c .before .before .gave2 .ensures in
+    let done = c .before .before .before .read-memory .ensures in
+    let asked = c .before .before .before .before .before .before .before .command4 .given .1 in
+    (rw (printed .0, done, asked), rw (printed .1, done, asked))
 
 same-length-7 : tie.Need-same-length-7
 same-length-7 c = search needs
@@ -112,11 +113,11 @@ same-length-8 c = search needs
 
 returns-5 : tie.Need-returns-5
 returns-5 c =
-    let printed = c .before .before .put-tick .ensures in
-    let done = c .before .before .before .before .before .before .tick .ensures in
-    let brought = c .before .before .before .before .before .before .before .inputs .ensures in
-    let asked = c .before .before .before .before .before .before .before .before .before .before .command5 .given .1 in
-    (rw (done, brought, asked), rw (printed, done, brought, asked))
+    let printed = c .before .before .ran .ensures in
+    let done = c .before .before .before .tick .ensures in
+    let brought = c .before .before .before .before .inputs .ensures in
+    let asked = c .before .before .before .before .before .before .before .before .command5 .given .1 in
+    (rw (printed .0, done, brought, asked), rw (printed .1, done, brought, asked))
 
 same-length-9 : tie.Need-same-length-9
 same-length-9 c = search needs
@@ -133,20 +134,20 @@ run-line-spec =
     (tie.spec
     enum-known-command
     write-register-requires
-    put-verdict-requires
+    wrote-requires
     enum-known-command-2
     read-register-requires
-    put-reading-requires
+    gave-requires
     enum-known-command-3
     write-memory-requires
-    put-verdict-requires-2
+    wrote-requires-2
     enum-known-command-4
     read-memory-requires
-    put-reading-requires-2
+    gave-requires-2
     enum-known-command-5
     inputs-requires
     tick-requires
-    put-tick-requires
+    ran-requires
     enum-told
     put-no-requires
     same-length
