@@ -15,7 +15,7 @@ use Rattle.registers.specs.Control.{inputs}
 use Rattle.prescaler.specs.Prescaler.{PassCount}
 use Rattle.prescaler.specs.PrescalerFields.{counterAt, factorAt}
 use Rattle.prescaler.specs.declared.Prescalers.{Prescalers}
-use Rattle.prescaler.proofs.PrescalerLaws.{EightPlaces}
+use Rattle.prescaler.specs.Prescaler.{EightPlaces}
 use Rattle.branch.specs.Branch.{queueDepth, held}
 use Rattle.branch.specs.declared.Branch.{Branch}
 use Rattle.branches.specs.ReadoutFields.{branchAt}

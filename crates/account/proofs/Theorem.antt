@@ -2,26 +2,25 @@
 --     call-keeps-invariant         one call, carried out or declined
 --     run-keeps-invariant          a list of calls
 --     invariant-implies-balanced   the statement, from the invariant
---     every-run-balances, demand3  the theorem
+--     every-run-balances           the theorem
 --     any-two-branches             any two branches have the same words finished and held
---     module-balances, module-any-two   the same for a module's four branches
 -- Assumes nothing.
 use Prim.Native.Nat.{ℕ, _<_}
 use mathlib.Core.Path.{_≡_, refl, sym, _∙_}
 use mathlib.Core.List.{List, [], _∷_, _++_}
 use Rattle.prescaler.specs.PrescalerFields.{counterAt, factorAt}
 use Rattle.prescaler.proofs.PrescalerLaws.{pass-count-divides}
-use Rattle.branches.specs.Readout.{moduleBranches}
 use Rattle.supervisor.specs.Supervisor.{freshOf}
 use Rattle.supervisor.specs.declared.Supervisor.{Supervisor}
 use Rattle.calls.specs.Answers.{Reply, declined, value}
 use Rattle.calls.specs.Calls.{markedOf}
 use Rattle.calls.specs.Runs.{Ask, writeRegister, readRegister, writeMemory, readMemory, tick}
 use Rattle.calls.specs.Runs.{Call, callOf, recordAfter, logOf}
-use Rattle.calls.proofs.CallEnds.{End, refused, refusedActive, wrote, gave, stored, ran, statusBit, call-ends}
+use Rattle.calls.proofs.CallEnds.{End, refused, refusedActive, wrote, gave, stored, ran, call-ends}
+use Rattle.calls.specs.Refusals.{statusBit}
 use Rattle.account.specs.AccountFields.{Account}
 use Rattle.account.specs.Account.{start, afterEntry, accountOf}
-use Rattle.account.specs.Demand3.{heldAt, Balanced, Demand3}
+use Rattle.account.specs.Demand3.{heldAt, Balanced, Demand3, wordsOf}
 use Rattle.account.proofs.Invariant.{Invariant}
 use Rattle.account.proofs.WriteLaw.{fresh-has-invariant, write-keeps-invariant}
 use Rattle.account.proofs.TickLaw.{ticked-keeps-invariant}
@@ -92,15 +91,7 @@ every-run-balances branches calls =
     invariant-implies-balanced (recordAfter calls (freshOf branches)) (accountOf (logOf calls (freshOf branches)) start)
     (run-keeps-invariant calls (freshOf branches) start (fresh-has-invariant branches))
 
-pub demand3 : (branches : ℕ) → Demand3 branches
-demand3 = every-run-balances
-
 -- ---- any two branches
-
--- what branch k + 1 has finished and holds after a run
-abbrev pub wordsOf : (branches : ℕ) → List Call → (k : ℕ) → List ℕ
-wordsOf branches calls k =
-    accountOf (logOf calls (freshOf branches)) start .finished k ++ heldAt (recordAfter calls (freshOf branches)) k
 
 -- [Account.16]
 pub any-two-branches : (branches : ℕ) (calls : List Call) (j k : ℕ) → j < branches → k < branches
@@ -109,12 +100,3 @@ unfolding Demand3
 any-two-branches branches calls j k hj hk =
     let balanced = every-run-balances branches calls in
     balanced .order j hj ∙ sym (balanced .order k hk)
-
--- ---- the module: four branches
-
-pub module-balances : Demand3 moduleBranches
-module-balances = every-run-balances moduleBranches
-
-pub module-any-two : (calls : List Call) (j k : ℕ) → j < moduleBranches → k < moduleBranches
-    → wordsOf moduleBranches calls j ≡ wordsOf moduleBranches calls k
-module-any-two = any-two-branches moduleBranches

@@ -52,3 +52,8 @@ unfoldable pub Demand3 : (branches : ℕ) → Type 0
 Demand3 branches =
     (calls : List Call)
     → Balanced branches (recordAfter calls (freshOf branches)) (accountOf (logOf calls (freshOf branches)) start)
+
+-- [Account.16] what branch k + 1 has finished and holds after a run
+abbrev pub wordsOf : (branches : ℕ) → List Call → (k : ℕ) → List ℕ
+wordsOf branches calls k =
+    accountOf (logOf calls (freshOf branches)) start .finished k ++ heldAt (recordAfter calls (freshOf branches)) k

@@ -19,6 +19,7 @@ use Rattle.bits.proofs.BitsLaws.{or-at, and-at, set-at, clear-at, shift
 
 -- ---- no bit outside n bits, no bit outside a mask
 
+-- [Lab.9] one law for every width
 pub fits-iff-no-bit-outside : (n w : ℕ) → (fitsIn n w ≡ true) ↔ NoBitOutside n w
 fits-iff-no-bit-outside n w = (below, fits)
   where

@@ -6,7 +6,7 @@
 --     stepOf          a tick of all branches, with what each finished and shows
 --     isWellFormedOf  no branch spoils the record
 -- Place k is branch k + 1.
--- Own rules of 01 used here: none. Decisions: B4 (empty speaks of words alone). Left out: nothing.
+-- Own rules of 01 used here: none. Decisions: B4, T4, A4. Left out: nothing.
 -- Assumes nothing.
 use Prim.Native.Nat.{ℕ, _%_}
 use mathlib.Core.Path.{_≡_}

@@ -23,14 +23,7 @@ use Rattle.calls.specs.Registers.{writtenOf}
 use Rattle.calls.specs.Calls.{lastRegister, memoryPlaces, writeError, readError, markedOf, isProtected}
 use Rattle.calls.specs.Calls.{writeRegisterOf, readRegisterOf, writeMemoryOf, readMemoryOf, isOutOfRange, tickOf}
 use Rattle.calls.specs.Runs.{Ask, writeRegister, readRegister, writeMemory, readMemory, tick, askOf}
-
--- [Declines.2c] [Declines.4d] the status bit of a refusal with 4: 19 for a write, 20 for a read
-abbrev pub statusBit : Ask → ℕ
-statusBit (writeRegister number v) = writeError
-statusBit (readRegister number) = readError
-statusBit (writeMemory place word) = writeError
-statusBit (readMemory place) = readError
-statusBit (tick x) = readError
+use Rattle.calls.specs.Refusals.{statusBit}
 
 -- an ask on the record s over the memory, its reply and the record after it
 pub data End (memory : List ℕ) (s : Supervisor) : Ask → Reply → Supervisor → Type 0 where

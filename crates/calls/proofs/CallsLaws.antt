@@ -27,12 +27,8 @@ use Rattle.calls.specs.Calls.{writeRegisterOf, readRegisterOf, writeMemo
 use Rattle.calls.specs.Calls.{isOutOfRange, tickOf}
 use Rattle.calls.specs.Runs.{Ask, writeRegister, readRegister, writeMemory, readMemory, tick, askOf}
 use Rattle.calls.specs.Runs.{memoryAfter}
-use Rattle.calls.proofs.CallEnds.{End, refused, refusedActive, wrote, gave, stored, ran, statusBit, call-ends}
-
--- what a refusal leaves of the record s, with the status bit that 4 sets
-pub record Leaves (bit : ℕ) (s : Supervisor) (reply : Reply) (next : Supervisor) : Type 0 where
-  pub other : (n : ℕ) → reply ≡ declined n → (n ≡ 4 → ⊥) → next ≡ s
-  pub active : reply ≡ declined 4 → next ≡ markedOf bit s
+use Rattle.calls.specs.Refusals.{statusBit, Leaves}
+use Rattle.calls.proofs.CallEnds.{End, refused, refusedActive, wrote, gave, stored, ran, call-ends}
 
 -- a reply that is no refusal leaves what it leaves
 no-refusal : (bit : ℕ) (s : Supervisor) (reply : Reply) (next : Supervisor) → ((n : ℕ) → reply ≡ declined n → ⊥)

@@ -3,3 +3,4 @@ pub mod Answers
 pub mod Registers
 pub mod Calls
 pub mod Runs
+pub mod Refusals

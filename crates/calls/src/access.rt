@@ -89,7 +89,7 @@ fn roc_written(s: Supervisor, value: u32) -> Supervisor
     s.with_readout(readout)
 }
 
-// A register write that is carried out.
+// [CSRWrite.3] a register write that is carried out; it is not given the memory
 pub fn written(s: Supervisor, register: Register, value: u32) -> Supervisor
     ensures { λ r. ⌜ r ≡ writtenOf register value s ⌝ }
 {

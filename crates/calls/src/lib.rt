@@ -77,6 +77,7 @@ fn marked(s: Supervisor, status: u32) -> Supervisor
     s.with_core(core)
 }
 
+// [Declines.1a] [Declines.1b] the record as it is, and why
 fn refused(s: Supervisor, why: Decline) -> WriteDone
     ensures { λ r. ⌜ r ≡ refuse why s ⌝ }
 {

@@ -11,13 +11,24 @@ use Rattle.claims.specs.Parts.{FactorFitsItsWidth, TimerFitsItsWidth, As
 use Rattle.claims.specs.Parts.{CsrBitAfterWrite, ClearWins, PulseHasOneFate, PulseKeepsPassCount, PassCountDivides}
 use Rattle.claims.specs.Parts.{FirstPulseIsScaled, FailBeatsPass2, FailBeatsPass3, ToIdleZeroes, IntervalOneIsDue}
 use Rattle.claims.specs.Parts.{SyncLoadKeepsCount, UserSyncEndsExactly, BranchKeepsOrder, StrobeHasWord}
-use Rattle.claims.specs.Parts.{NoneEnabledIsHigh, NoneEnabledIsLow}
+use Rattle.claims.specs.Parts.{NoneEnabledIsHigh, NoneEnabledIsLow, IntervalFitsItsWidth, ControlFitsItsBits}
+use Rattle.claims.specs.Parts.{Over19IsAbsent, ResetClearsTheRun, MarksSetStatusBits, SyncHoldEndsARun}
+use Rattle.claims.specs.Parts.{UserSyncEndsARun, FirstPulseIsScaledAfterReset, ZeroIsPassed, Inputs9To12Pass}
 
 pub factor-fits-its-width : FactorFitsItsWidth
 factor-fits-its-width = registers.factor-fits-iff-no-bit-outside
 
 pub timer-fits-its-width : TimerFitsItsWidth
 timer-fits-its-width = registers.timer-fits-iff-no-bit-outside
+
+pub interval-fits-its-width : IntervalFitsItsWidth
+interval-fits-its-width = registers.interval-fits-iff-no-bit-outside
+
+pub control-fits-its-bits : ControlFitsItsBits
+control-fits-its-bits = registers.control-fits-iff-no-bit-outside
+
+pub over-19-is-absent : Over19IsAbsent
+over-19-is-absent = registers.over-19-is-absent
 
 pub assign-declines-40-to-4F : AssignDeclines40To4F
 assign-declines-40-to-4F = registers.assign-declines-40-to-4F
@@ -31,6 +42,18 @@ csr-bit-after-write = csr.written-at
 pub clear-wins : ClearWins
 clear-wins = csr.clear-wins
 
+pub reset-clears-the-run : ResetClearsTheRun
+reset-clears-the-run = csr.reset-clears
+
+pub marks-set-status-bits : MarksSetStatusBits
+marks-set-status-bits = csr.marked-at
+
+pub sync-hold-ends-a-run : SyncHoldEndsARun
+sync-hold-ends-a-run = csr.sync-hold-ended-at
+
+pub user-sync-ends-a-run : UserSyncEndsARun
+user-sync-ends-a-run = csr.user-sync-ended-at
+
 pub pulse-has-one-fate : PulseHasOneFate
 pulse-has-one-fate = prescaler.fate-is-one
 
@@ -42,6 +65,15 @@ pass-count-divides = prescaler.pass-count-divides
 
 pub first-pulse-is-scaled : FirstPulseIsScaled
 first-pulse-is-scaled = loads.first-pulse-scaled
+
+pub first-pulse-is-scaled-after-reset : FirstPulseIsScaledAfterReset
+first-pulse-is-scaled-after-reset = loads.first-pulse-scaled-after-reset
+
+pub zero-is-passed : ZeroIsPassed
+zero-is-passed = prescaler.zero-is-passed
+
+pub inputs-9-to-12-pass : Inputs9To12Pass
+inputs-9-to-12-pass = prescaler.unprescaled-is-passed
 
 pub fail-beats-pass2 : FailBeatsPass2
 fail-beats-pass2 = main.fail-beats-pass2

@@ -3,11 +3,13 @@
 use Rattle.branches.specs.Readout.{moduleBranches}
 use Rattle.calls.proofs.CallsLaws.{refusal-leaves, refusal-leaves-memory, spoiled-declines-all}
 use Rattle.account.proofs.Theorem.{every-run-balances, any-two-branches}
-use Rattle.reach.proofs.Never.{call-keeps-unspoiled, every-run-is-unspoiled}
+use Rattle.reach.proofs.Never.{call-keeps-unspoiled, never-spoiled}
 use Rattle.bench.proofs.Examples.{bench-examples}
+use Rattle.script.proofs.ScriptLaws.{lines-end, lines-append, answers-so-far, answer-is-line, answers-count}
 use Rattle.claims.specs.Claims.{RefusalLeavesRecord, RefusalLeavesMemory, SpoiledRecordRefuses, EveryRunBalances}
 use Rattle.claims.specs.Claims.{EveryRunBalancesAtAnySize, AnyTwoBranchesAgree, NoRunIsSpoiled}
-use Rattle.claims.specs.Claims.{EveryCallKeepsUnspoiled, BenchExamples}
+use Rattle.claims.specs.Claims.{EveryCallKeepsUnspoiled, BenchExamples, LastNewlineMayLack}
+use Rattle.claims.specs.Claims.{AnswersDoNotLookAhead, LinesDoNotLookAhead, EveryAnswerIsOneLine, OneAnswerEachLine}
 
 pub refusal-leaves-record : RefusalLeavesRecord
 refusal-leaves-record = refusal-leaves
@@ -27,8 +29,23 @@ demand3-at-any-size = every-run-balances
 pub any-two-branches-agree : AnyTwoBranchesAgree
 any-two-branches-agree = any-two-branches moduleBranches
 
+pub last-newline-may-lack : LastNewlineMayLack
+last-newline-may-lack = lines-end
+
+pub answers-do-not-look-ahead : AnswersDoNotLookAhead
+answers-do-not-look-ahead = answers-so-far
+
+pub lines-do-not-look-ahead : LinesDoNotLookAhead
+lines-do-not-look-ahead = lines-append
+
+pub every-answer-is-one-line : EveryAnswerIsOneLine
+every-answer-is-one-line = answer-is-line
+
+pub one-answer-each-line : OneAnswerEachLine
+one-answer-each-line = answers-count
+
 pub no-run-is-spoiled : NoRunIsSpoiled
-no-run-is-spoiled = every-run-is-unspoiled moduleBranches
+no-run-is-spoiled = never-spoiled moduleBranches
 
 pub every-call-keeps-unspoiled : EveryCallKeepsUnspoiled
 every-call-keeps-unspoiled = call-keeps-unspoiled

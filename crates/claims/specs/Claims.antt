@@ -16,18 +16,23 @@
 use Prim.Native.Nat.{ℕ, _<_}
 use mathlib.Core.Path.{_≡_}
 use mathlib.Core.Bool.{Bool, true, false}
-use mathlib.Core.List.{List}
+use mathlib.Core.List.{List, [], _∷_, _++_}
+use lib.Dec.{eqb}
+use lib.ListN.{length}
 use Rattle.branches.specs.Readout.{moduleBranches}
 use Rattle.supervisor.specs.Supervisor.{isSpoiledOf}
 use Rattle.supervisor.specs.declared.Supervisor.{Supervisor}
 use Rattle.calls.specs.Answers.{declined}
 use Rattle.calls.specs.Runs.{Ask, Call, askOf, memoryAfter}
-use Rattle.calls.proofs.CallEnds.{statusBit}
-use Rattle.calls.proofs.CallsLaws.{Leaves}
-use Rattle.account.specs.Demand3.{Demand3}
-use Rattle.account.proofs.Theorem.{wordsOf}
+use Rattle.calls.specs.Refusals.{statusBit, Leaves}
+use Rattle.account.specs.Demand3.{Demand3, wordsOf}
 use Rattle.reach.specs.NeverSpoiled.{OfType, KeepsUnspoiled, NeverSpoiled}
 use Rattle.bench.specs.Bench.{examples, allRight}
+use Rattle.script.specs.Text.{newline}
+use Rattle.script.specs.Reader.{linesOf}
+use Rattle.script.specs.Answers.{Session, lineAnswer, answersFrom}
+use Rattle.script.specs.AnswerLines.{sessionAt, OneLine, newlines}
+use Rattle.script.specs.declared.reader.Command.{Command}
 
 -- ---- demand 1, beside the contracts
 
@@ -63,6 +68,30 @@ abbrev pub AnyTwoBranchesAgree : Type 0
 AnyTwoBranchesAgree =
     (calls : List Call) (j k : ℕ) → j < moduleBranches → k < moduleBranches
     → wordsOf moduleBranches calls j ≡ wordsOf moduleBranches calls k
+
+-- ---- the console
+
+-- A last line that lacks its newline is read as if it had it.
+abbrev pub LastNewlineMayLack : Type 0
+LastNewlineMayLack =
+    (b : ℕ) (bs : List ℕ) → eqb b newline ≡ false → linesOf (bs ++ (b ∷ [])) ≡ linesOf (bs ++ (b ∷ newline ∷ []))
+
+-- What lines print does not depend on the lines after them.
+abbrev pub AnswersDoNotLookAhead : Type 0
+AnswersDoNotLookAhead =
+    (ls ms : List (List ℕ)) (z : Session) → answersFrom (ls ++ ms) z ≡ answersFrom ls z ++ answersFrom ms (sessionAt ls z)
+
+-- Nor does where a line that is ended ends depend on the bytes after it.
+abbrev pub LinesDoNotLookAhead : Type 0
+LinesDoNotLookAhead = (a b : List ℕ) → linesOf (a ++ (newline ∷ b)) ≡ linesOf (a ++ (newline ∷ [])) ++ linesOf b
+
+-- Every answer is one line, of bytes that document 01 allows in an answer.
+abbrev pub EveryAnswerIsOneLine : Type 0
+EveryAnswerIsOneLine = (c : Command) (z : Session) → OneLine (lineAnswer c z)
+
+-- There are as many answers as lines after the first.
+abbrev pub OneAnswerEachLine : Type 0
+OneAnswerEachLine = (ls : List (List ℕ)) (z : Session) → newlines (answersFrom ls z) ≡ length ls
 
 -- ---- beyond the demands
 

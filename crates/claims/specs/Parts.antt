@@ -3,21 +3,24 @@
 -- Assumes nothing.
 use Prim.Native.Nat.{ℕ, _+_, _/_, _<_, _≤_}
 use mathlib.Core.Path.{_≡_}
-use mathlib.Core.Bool.{Bool, true, false, not, _&&_}
+use mathlib.Core.Bool.{Bool, true, false, not, _&&_, _||_}
 use mathlib.Core.List.{_++_}
 use mathlib.Core.Logic.{_↔_}
-use lib.Dec.{eqb}
+use lib.Dec.{eqb, ltb, leb}
 use lib.ListN.{length}
-use Rattle.bits.specs.Bits.{bitAt, oneIfOf, NoBitOutside}
+use Rattle.bits.specs.Bits.{bitAt, oneIfOf, NoBitOutside, NoBitOutsideOf}
 use Rattle.registers.specs.Csr as csr
 use Rattle.registers.specs.Control.{inputs}
-use Rattle.registers.specs.CsrBits.{bitAfter}
-use Rattle.registers.specs.Registers.{isValidAssign, isValidFactor, isValidTimer, factorWidth, timerWidth}
+use Rattle.registers.specs.CsrBits.{isStatusBit, bitAfter}
+use Rattle.registers.specs.Registers.{numberedOf, factorWidth, timerWidth, intervalWidth, controlBits}
+use Rattle.registers.specs.Registers.{isValidControl, isValidFactor, isValidInterval, isValidTimer, isValidAssign}
+use Rattle.registers.specs.declared.csr.Request.the-variants.{Reset}
+use Rattle.registers.specs.declared.register.Register.the-variants.{Absent}
 use Rattle.registers.specs.declared.csr.Csr.{Csr}
 use Rattle.prescaler.specs.Prescaler as prescaler
 use Rattle.prescaler.specs.declared.Prescalers.{Prescalers}
-use Rattle.prescaler.proofs.PrescalerLaws.{EightPlaces}
-use Rattle.prescaler.proofs.PrescalerLoadLaws.{ScaledAt}
+use Rattle.prescaler.specs.Prescaler.{EightPlaces, ScaledAt}
+use Rattle.prescaler.specs.PrescalerFields.{counterAt, factorAt}
 use Rattle.sync.specs.SyncCounter.{isDue, afterLoadOf}
 use Rattle.sync.specs.UserSync as user
 use Rattle.sync.specs.declared.counter.SyncCounter.{SyncCounter}
@@ -41,6 +44,17 @@ FactorFitsItsWidth = (input v : ℕ) → (isValidFactor input v ≡ true) ↔ No
 abbrev pub TimerFitsItsWidth : Type 0
 TimerFitsItsWidth = (timer v : ℕ) → (isValidTimer timer v ≡ true) ↔ NoBitOutside (timerWidth timer) v
 
+-- The interval by its width, control by its bits.
+abbrev pub IntervalFitsItsWidth : Type 0
+IntervalFitsItsWidth = (v : ℕ) → (isValidInterval v ≡ true) ↔ NoBitOutside intervalWidth v
+
+abbrev pub ControlFitsItsBits : Type 0
+ControlFitsItsBits = (v : ℕ) → (isValidControl v ≡ true) ↔ NoBitOutsideOf controlBits v
+
+-- A number over 19 names no register.
+abbrev pub Over19IsAbsent : Type 0
+Over19IsAbsent = (n : ℕ) → 19 < n → numberedOf n ≡ Absent
+
 -- The assign codes 40h–4Fh, and those from 60h, name nothing.
 abbrev pub AssignDeclines40To4F : Type 0
 AssignDeclines40To4F = (v : ℕ) → 64 ≤ v → v < 80 → isValidAssign v ≡ false
@@ -55,6 +69,27 @@ CsrBitAfterWrite = (v : ℕ) (c : Csr) (i : ℕ) → csr.hasBit (csr.writtenOf v
 -- Where a write both sets and clears a bit, it clears it.
 abbrev pub ClearWins : Type 0
 ClearWins = (v : ℕ) (c : Csr) (i : ℕ) → i < 12 → bitAt v (16 + i) ≡ true → csr.hasBit (csr.setThenClearedOf v c) i ≡ false
+
+-- RESET clears bits 0–3.
+abbrev pub ResetClearsTheRun : Type 0
+ResetClearsTheRun = (v : ℕ) (c : Csr) (i : ℕ) → i < 4 → csr.hasBit (csr.afterRequestOf Reset v c) i ≡ false
+
+-- A tick or a declined call sets status bits alone.
+abbrev pub MarksSetStatusBits : Type 0
+MarksSetStatusBits =
+    (marks : ℕ) (c : Csr) (i : ℕ) → csr.hasBit (csr.markedOf marks c) i ≡ (csr.hasBit c i || (bitAt marks i && isStatusBit i))
+
+-- The end of Sync hold clears bits 0 and 1, if bit 1 was set, and no other bit.
+abbrev pub SyncHoldEndsARun : Type 0
+SyncHoldEndsARun =
+    (c : Csr) (i : ℕ) → csr.hasBit (csr.syncHoldEndedOf c) i ≡ (csr.hasBit c i && not (csr.pausesOnNextSync c && ltb i 2))
+
+-- The end of a user sync clears bits 2 and 3, and bit 0 if bit 2 was set, and no other bit.
+abbrev pub UserSyncEndsARun : Type 0
+UserSyncEndsARun =
+    (c : Csr) (i : ℕ)
+    → csr.hasBit (csr.userSyncEndedOf c) i
+    ≡ ((csr.hasBit c i && not (leb 2 i && ltb i 4)) && not (csr.pausesAndSyncs c && ltb i 1))
 
 -- ---- prescalers
 
@@ -84,6 +119,23 @@ FirstPulseIsScaled =
     (pulses i : ℕ) → i < prescaler.prescaledInputs → bitAt pulses i ≡ true → (input factor : ℕ) (b : Prescalers)
     → i + 1 ≡ input → EightPlaces b → 0 < factor
     → ScaledAt (prescaler.stepOf true pulses (prescaler.withFactorOf input factor b)) i
+
+-- The same after RESET, which loads every counter.
+abbrev pub FirstPulseIsScaledAfterReset : Type 0
+FirstPulseIsScaledAfterReset =
+    (pulses i : ℕ) → i < prescaler.prescaledInputs → bitAt pulses i ≡ true → (b : Prescalers) → 0 < factorAt b i
+    → ScaledAt (prescaler.stepOf true pulses (prescaler.reloadedOf b)) i
+
+-- A counted pulse that meets 0 passes where the bank runs; so does every one of inputs 9–12.
+abbrev pub ZeroIsPassed : Type 0
+ZeroIsPassed =
+    (pulses : ℕ) (b : Prescalers) (i : ℕ) → bitAt pulses i ≡ true → i < prescaler.prescaledInputs → counterAt b i ≡ 0
+    → prescaler.fateAt true pulses b i ≡ prescaler.passed
+
+abbrev pub Inputs9To12Pass : Type 0
+Inputs9To12Pass =
+    (pulses : ℕ) (b : Prescalers) (i : ℕ) → bitAt pulses i ≡ true → prescaler.prescaledInputs ≤ i
+    → prescaler.fateAt true pulses b i ≡ prescaler.passed
 
 -- ---- main sequencer
 

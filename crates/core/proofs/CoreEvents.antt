@@ -3,7 +3,6 @@
 --     EventStep              the three, by main's state before and after
 --     event-step-balances    accepted events are cleared, loaded or undecided
 --     undecided-follows      the account's rule of the undecided event follows main's state
---     tag-has-no-undecided   a tag only where nothing is undecided
 -- Assumes nothing.
 use Prim.Native.Nat.{ℕ, _+_}
 use mathlib.Core.Path.{_≡_, refl, sym, _∙_}
@@ -31,13 +30,6 @@ pub event-step-balances : {g g′ : State} {accepted : Bool} {o : Outcome} → E
 event-step-balances (accepts e u) = rw (e, u)
 event-step-balances (tags e e′) = rw (e, e′)
 event-step-balances (goesOn t d) = omega arith
-
--- [Usersync.1] a tag only where nothing is undecided or accepted
-pub tag-has-no-undecided : {g g′ : State} {accepted : Bool} {o : Outcome} → EventStep g g′ accepted o → isTag o ≡ true
-    → isUndecided g ≡ false
-tag-has-no-undecided (accepts e u) h = rw e
-tag-has-no-undecided (tags e e′) h = rw e
-tag-has-no-undecided (goesOn t d) h = absurd (true≢false (sym h ∙ t))
 
 goes-on : (o : Outcome) (before after : Bool) → isTag o ≡ false
     → oneIfOf before ≡ oneIfOf (isCleared o) + oneIfOf (isEvent o) + oneIfOf after

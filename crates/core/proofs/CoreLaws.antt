@@ -21,7 +21,7 @@ use Rattle.registers.proofs.ControlLaws.{counted-at}
 use Rattle.prescaler.specs.Prescaler.{PassCount}
 use Rattle.prescaler.specs.PrescalerFields.{counterAt, factorAt}
 use Rattle.prescaler.proofs.PrescalerLaws as prescaler
-use Rattle.prescaler.proofs.PrescalerLaws.{EightPlaces}
+use Rattle.prescaler.specs.Prescaler.{EightPlaces}
 use Rattle.sync.specs.UserSync.{tagWord}
 use Rattle.sequencer.specs.MemoryWord.{isOkWord}
 use Rattle.sequencer.specs.MainFields.{quiet}

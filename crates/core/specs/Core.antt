@@ -9,7 +9,7 @@
 --     resetOf        the core after RESET
 --     soundnessOf    the clauses of the spoiled rule on the core
 -- All tests read the record at the tick's start ([Tick.2]): each part below is a function of that record alone.
--- Own rules of 01 used here: none. Decisions: T1, T2, T3. Left out: nothing.
+-- Own rules of 01 used here: none. Decisions: T1–T4, T6, A2, A4. Left out: nothing.
 -- Assumes nothing.
 use Prim.Native.Nat.{ℕ, _+_, _*_, _%_, _^_}
 use mathlib.Core.Bool.{Bool, true, false, not, _&&_, _||_}

@@ -29,7 +29,7 @@ pub fn word_at(memory: &[u16], pattern: u32) -> u16
     0
 }
 
-// [Ready.2] [Ready.4] [Ready.5]
+// [Ready.2] [Ready.3] [Ready.4] [Ready.5]
 pub fn latched_pulses(ready: bool, word: u16, passed: u32) -> Latch
     ensures { λ r. ⌜ r ≡ latchOf ready (isOkWord word) passed ⌝ }
 {

@@ -205,7 +205,7 @@ impl Core {
         self.cycle_step(lines, room, empty)
     }
 
-    // A tick; room and empty are what the core sees of the branches.
+    // [Tick.2] a tick; room and empty are what the core sees of the branches
     pub fn step(self, x: Inputs, memory: &[u16], room: bool, empty: bool) -> CoreStep
         ensures { λ r. ⌜ r ≡ stepOf room empty x (now (memory .entry)) self ⌝ }
     {
@@ -257,7 +257,7 @@ impl Core {
         state.is_loaded() | user.waiting
     }
 
-    // The clauses of the spoiled rule on the core, in the order of the definition.
+    // [Spoiled.1a] [Spoiled.1e] [Spoiled.1h] [Spoiled.1k] and main's, in the order of the definition
     pub fn is_sound(self) -> bool
         ensures { λ r. ⌜ r ≡ isSoundOf self ⌝ }
     {

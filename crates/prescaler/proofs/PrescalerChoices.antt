@@ -18,10 +18,11 @@ use Rattle.prescaler.specs.PrescalerFields.{withCounters, counterAt, fac
 use Rattle.registers.specs.Control.{inputs}
 use Rattle.prescaler.specs.Prescaler.{prescaledInputs, fateOf, FateFacts, factsOf}
 use Rattle.prescaler.specs.Prescaler.{unmoved, pulseOf, isAtZero, fateAt, counterAfterAt, stepOf, gatheredOf}
+use Rattle.prescaler.specs.Prescaler.{EightPlaces}
 use Rattle.prescaler.specs.declared.Prescalers.{Prescalers}
 use Rattle.prescaler.specs.declared.Prescaled.{Prescaled}
 use Rattle.prescaler.specs.declared.Counted.{Counted}
-use Rattle.prescaler.proofs.PrescalerLaws.{EightPlaces, factAt, bank-stays, stopped-keeps-bank}
+use Rattle.prescaler.proofs.PrescalerLaws.{factAt, bank-stays, stopped-keeps-bank}
 
 -- ---- what the code builds
 

@@ -1,6 +1,5 @@
 -- Laws of the prescalers: what becomes of each counted pulse, how many pass, and what a step keeps.
 --     stopped-at, scaled-at, passed-at   bit i of each mask says what became of the pulse of input i + 1
---     stopped-lt, scaled-lt, passed-lt   no mask has a bit at or above 12
 --     fate-is-one                        each counted pulse is in exactly one of the three masks
 --     unstopped-is-running, passed-is-rest   the masks, as the account reads them
 --     above-zero-is-scaled, zero-is-passed, unprescaled-is-passed   the pulse of an input of a bank that runs
@@ -34,16 +33,11 @@ use Rattle.registers.specs.Control.{inputs}
 use Rattle.prescaler.specs.Prescaler.{prescaledInputs, freshOf, isPrescaledOf, withFactorOf, reloadedOf}
 use Rattle.prescaler.specs.Prescaler.{Fate, absent, stopped, scaled, passed, fateOf, counterAfter}
 use Rattle.prescaler.specs.Prescaler.{FateFacts, factsOf, isAtZero, fateAt, counterAfterAt, stepOf}
-use Rattle.prescaler.specs.Prescaler.{hasCountersWithinOf, PassCount}
+use Rattle.prescaler.specs.Prescaler.{hasCountersWithinOf, EightPlaces, PassCount}
 use Rattle.prescaler.specs.declared.Prescalers.{Prescalers}
 use Rattle.prescaler.specs.declared.Prescaled.{Prescaled}
 
 -- ---- what the laws say of a bank and of a step
-
--- an array of the code has eight places, a list of any length stands for it here
-pub record EightPlaces (b : Prescalers) : Type 0 where
-  pub counters : length (b .counters) ≡ prescaledInputs
-  pub factors : length (b .factors) ≡ prescaledInputs
 
 -- the counter and the factor of input i + 1 are c and f
 pub record StandsAt (b : Prescalers) (i c f : ℕ) : Type 0 where
@@ -152,18 +146,6 @@ module _ (runs : Bool) (pulses : ℕ) (b : Prescalers) where
       → bitAt (stepOf runs pulses b .passed) i ≡ factsOf (fateAt runs pulses b i) .isPassed
   unfolding stepOf
   passed-at i h = fact-at (λ f. f .isPassed) i h
-
-  pub stopped-lt : stepOf runs pulses b .stopped < 2 ^ inputs
-  unfolding stepOf
-  stopped-lt = mask-lt inputs (factAt (λ f. f .isStopped) runs pulses b)
-
-  pub scaled-lt : stepOf runs pulses b .scaled < 2 ^ inputs
-  unfolding stepOf
-  scaled-lt = mask-lt inputs (factAt (λ f. f .isScaled) runs pulses b)
-
-  pub passed-lt : stepOf runs pulses b .passed < 2 ^ inputs
-  unfolding stepOf
-  passed-lt = mask-lt inputs (factAt (λ f. f .isPassed) runs pulses b)
 
   -- [Account.11] each counted pulse is in exactly one of the three masks
   pub fate-is-one : (i : ℕ) → i < inputs

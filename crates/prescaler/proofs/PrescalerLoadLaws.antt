@@ -1,5 +1,5 @@
 -- Laws of the loads of a prescale counter: a factor written, RESET, the fresh bank, and the first pulse after.
---     with-factor-loads, with-factor-keeps-others, reloaded-loads   the counter and the factor of each input after a load
+--     with-factor-loads, with-factor-keeps-others                   the counter and the factor of each input after a load
 --     with-factor-has-, reloaded-has-, fresh-has-pass-count         what was just loaded has the count 0
 --     ..-lengths, ..-within              of each load: eight places; no counter above its factor
 --     first-pulse-scaled, first-pulse-scaled-after-reset            after a load with a factor above 0
@@ -20,16 +20,12 @@ use Rattle.bits.specs.Bits.{bitAt}
 use Rattle.bits.proofs.TestLaws.{and-left}
 use Rattle.prescaler.specs.PrescalerFields.{withCounters, withFactors, counterAt, factorAt}
 use Rattle.prescaler.specs.Prescaler.{prescaledInputs, freshOf, isPrescaledOf, withFactorOf, reloadedOf}
-use Rattle.prescaler.specs.Prescaler.{Fate, factsOf, stepOf, hasCountersWithinOf, PassCount}
+use Rattle.prescaler.specs.Prescaler.{Fate, factsOf, stepOf, hasCountersWithinOf, EightPlaces, ScaledAt}
+use Rattle.prescaler.specs.Prescaler.{PassCount}
 use Rattle.prescaler.specs.declared.Prescalers.{Prescalers}
 use Rattle.prescaler.specs.declared.Prescaled.{Prescaled}
-use Rattle.prescaler.proofs.PrescalerLaws.{EightPlaces, StandsAt, scaled-at, passed-at, above-zero-is-scaled}
+use Rattle.prescaler.proofs.PrescalerLaws.{StandsAt, scaled-at, passed-at, above-zero-is-scaled}
 use Rattle.prescaler.proofs.PrescalerLaws.{loaded-has-pass-count, within-at, at-within}
-
--- the pulse of input i + 1 is scaled and does not pass
-pub record ScaledAt (r : Prescaled) (i : ℕ) : Type 0 where
-  pub scaled : bitAt (r .scaled) i ≡ true
-  pub passed : bitAt (r .passed) i ≡ false
 
 -- ---- a factor written: input is counted from 1, and i + 1 is the input of place i
 
@@ -107,9 +103,6 @@ module _ (input factor : ℕ) (b : Prescalers) where
 -- ---- every counter loaded, and the fresh bank
 
 -- [CSRWrite.2d] RESET loads every counter and keeps the factors
-pub reloaded-loads : (b : Prescalers) (i : ℕ) → StandsAt (reloadedOf b) i (factorAt b i) (factorAt b i)
-reloaded-loads b i = record { counter = refl; factor = refl }
-
 pub reloaded-has-pass-count : (b : Prescalers) (i : ℕ)
     → PassCount 0 0 (counterAt (reloadedOf b) i) (factorAt (reloadedOf b) i)
 reloaded-has-pass-count b i = loaded-has-pass-count (factorAt b i)

@@ -13,7 +13,7 @@ use mathlib.Core.Path.{_≡_}
 use mathlib.Core.Bool.{Bool, true, false, not, _&&_, _||_}
 use mathlib.Core.List.{List}
 use lib.Dec.{eqb, leb}
-use lib.ListN.{getD, set, replicate}
+use lib.ListN.{length, getD, set, replicate}
 use Rattle.bits.specs.Notation.{if_then_else_, _▷_}
 use Rattle.bits.specs.Bits.{bitAt, maskOf, tabulate, every, clearOf}
 use Rattle.registers.specs.Control.{inputs}
@@ -145,6 +145,16 @@ unfoldable pub hasValidFactorsOf : Prescalers → Bool
 hasValidFactorsOf b = every prescaledInputs (λ i. isValidFactor (suc i) (factorAt b i))
 
 -- ---- facts and statements
+
+-- an array of the code has eight places, a list of any length stands for it here
+pub record EightPlaces (b : Prescalers) : Type 0 where
+  pub counters : length (b .counters) ≡ prescaledInputs
+  pub factors : length (b .factors) ≡ prescaledInputs
+
+-- the pulse of input i + 1 is scaled and does not pass
+pub record ScaledAt (r : Prescaled) (i : ℕ) : Type 0 where
+  pub scaled : bitAt (r .scaled) i ≡ true
+  pub passed : bitAt (r .passed) i ≡ false
 
 -- [Account.17] of n counted pulses not stopped since the load, p have passed;
 -- the prescaler stands at the counter

@@ -174,7 +174,7 @@ impl Prescalers {
         )
     }
 
-    // The counted pulses; runs: GO or OPEN PRESCALES is set. Where no counter can move none is looked at.
+    // [Pulses.2] [Pulses.5] the counted pulses; runs: GO or OPEN PRESCALES is set. Where no counter can move none is looked at.
     pub fn step(self, runs: bool, pulses: u32) -> Prescaled
         ensures { λ r. ⌜ r ≡ stepOf runs pulses self ⌝ }
     {

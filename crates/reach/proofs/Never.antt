@@ -1,20 +1,20 @@
 -- No run reaches a spoiled record: every call keeps a record that is not spoiled so, and the fresh one is none.
 --     call-keeps-unspoiled   every call, on every record of the code's types that is not spoiled, reachable or not
 --     run-keeps-unspoiled    every list of calls
---     every-run-is-unspoiled from a fresh supervisor of any number of branches; never-spoiled is its second name
+--     never-spoiled          from a fresh supervisor of any number of branches
 -- Assumes nothing.
 use Prim.Native.Nat.{ℕ}
 use mathlib.Core.Path.{_≡_}
 use mathlib.Core.Bool.{false}
 use mathlib.Core.List.{List, [], _∷_}
 use Rattle.registers.specs.Registers.{numberedOf}
-use Rattle.branches.specs.Readout.{moduleBranches}
 use Rattle.supervisor.specs.Supervisor.{freshOf, isSpoiledOf}
 use Rattle.supervisor.specs.declared.Supervisor.{Supervisor}
 use Rattle.calls.specs.Answers.{Reply}
 use Rattle.calls.specs.Calls.{markedOf}
 use Rattle.calls.specs.Runs.{Ask, Call, callOf, recordAfter}
-use Rattle.calls.proofs.CallEnds.{End, refused, refusedActive, wrote, gave, stored, ran, statusBit, call-ends}
+use Rattle.calls.proofs.CallEnds.{End, refused, refusedActive, wrote, gave, stored, ran, call-ends}
+use Rattle.calls.specs.Refusals.{statusBit}
 use Rattle.reach.specs.NeverSpoiled.{OfType, KeepsUnspoiled, NeverSpoiled}
 use Rattle.reach.proofs.Sound.{Unspoiled, unspoiled-from-test, unspoiled-to-test}
 use Rattle.reach.proofs.TickSound.{tick-keeps-type, tick-keeps-unspoiled}
@@ -68,15 +68,9 @@ run-keeps-unspoiled [] s fine = fine
 run-keeps-unspoiled (c ∷ cs) s fine =
     run-keeps-unspoiled cs (callOf c s .next) (call-keeps-fine c s fine)
 
-pub every-run-is-unspoiled : (branches : ℕ) → NeverSpoiled branches
+pub never-spoiled : (branches : ℕ) → NeverSpoiled branches
 unfolding NeverSpoiled
-every-run-is-unspoiled branches calls =
+never-spoiled branches calls =
     let fresh : Fine (freshOf branches) = record { ofType = fresh-is-of-type branches; unspoiled = fresh-is-unspoiled branches } in
     unspoiled-to-test (recordAfter calls (freshOf branches))
     (run-keeps-unspoiled calls (freshOf branches) fresh .unspoiled)
-
-pub never-spoiled : (branches : ℕ) → NeverSpoiled branches
-never-spoiled = every-run-is-unspoiled
-
-pub module-never-spoiled : NeverSpoiled moduleBranches
-module-never-spoiled = every-run-is-unspoiled moduleBranches

@@ -25,7 +25,7 @@ use Rattle.registers.specs.declared.register.Register.{Register}
 use Rattle.registers.specs.declared.register.Register.the-variants as register
 use Rattle.prescaler.specs.PrescalerFields.{factorAt}
 use Rattle.prescaler.specs.Prescaler as prescaler
-use Rattle.prescaler.proofs.PrescalerLaws.{EightPlaces}
+use Rattle.prescaler.specs.Prescaler.{EightPlaces}
 use Rattle.prescaler.proofs.PrescalerLoadLaws as loadLaws
 use Rattle.prescaler.specs.declared.Prescalers.{Prescalers}
 use Rattle.branch.specs.Branch.{hasRoomOf}

@@ -12,7 +12,7 @@ use Prim.Native.Nat.{ℕ, _^_, _<_}
 use mathlib.Core.Path.{_≡_}
 use mathlib.Core.Bool.{false}
 use mathlib.Core.List.{List}
-use Rattle.prescaler.proofs.PrescalerLaws.{EightPlaces}
+use Rattle.prescaler.specs.Prescaler.{EightPlaces}
 use Rattle.supervisor.specs.Supervisor.{freshOf, isSpoiledOf}
 use Rattle.supervisor.specs.declared.Supervisor.{Supervisor}
 use Rattle.calls.specs.Runs.{Call, callOf, recordAfter}

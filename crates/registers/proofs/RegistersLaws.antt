@@ -1,7 +1,6 @@
 -- Laws of the registers by number and of the values that they take.
 --     factor-, timer-, interval-fits-iff-no-bit-outside   the width law of bits, at 20, 14, 16 and 8 bits
 --     control-fits-iff-no-bit-outside    the mask law of bits, for control
---     csr-value-has-no-declined-bit      a CSR value taken has none of bits 12, 13, 28, 29, 30
 --     assign-declines-40-to-4F, assign-declines-60-up     the codes that 01 does not list
 --     over-19-is-absent                  a number over 19 names no register
 --     numbered-is-in-range               a number names factor 1–8, timer 1–5, scaler 0 or 1, or another one
@@ -37,35 +36,7 @@ interval-fits-iff-no-bit-outside v = fits-iff-no-bit-outside intervalWidth v
 pub control-fits-iff-no-bit-outside : (v : ℕ) → (isValidControl v ≡ true) ↔ NoBitOutsideOf controlBits v
 control-fits-iff-no-bit-outside v = only-iff-no-bit-outside controlBits v
 
--- ---- the CSR's bits that are declined, the codes that are not listed
-
-neither : (a b : Bool) → not (a || b) ≡ true → a ≡ false
-neither true b h = sym h
-neither false b h = refl
-
-nor : (a b : Bool) → not (a || b) ≡ true → not b ≡ true
-nor true b h = cc
-nor false b h = h
-
-pub record NoDeclinedBit (v : ℕ) : Type 0 where
-  pub bit12 : bitAt v 12 ≡ false
-  pub bit13 : bitAt v 13 ≡ false
-  pub bit28 : bitAt v 28 ≡ false
-  pub bit29 : bitAt v 29 ≡ false
-  pub bit30 : bitAt v 30 ≡ false
-
-pub csr-value-has-no-declined-bit : (v : ℕ) → isValidCsrValue v ≡ true → NoDeclinedBit v
-csr-value-has-no-declined-bit v h =
-    let after12 : _ = nor (bitAt v 12) (bitAt v 13 || (bitAt v 28 || (bitAt v 29 || bitAt v 30))) h in
-    let after13 : _ = nor (bitAt v 13) (bitAt v 28 || (bitAt v 29 || bitAt v 30)) after12 in
-    let after28 : _ = nor (bitAt v 28) (bitAt v 29 || bitAt v 30) after13 in
-    record {
-      bit12 = neither (bitAt v 12) (bitAt v 13 || (bitAt v 28 || (bitAt v 29 || bitAt v 30))) h;
-      bit13 = neither (bitAt v 13) (bitAt v 28 || (bitAt v 29 || bitAt v 30)) after12;
-      bit28 = neither (bitAt v 28) (bitAt v 29 || bitAt v 30) after13;
-      bit29 = neither (bitAt v 29) (bitAt v 30) after28;
-      bit30 = not-true (bitAt v 30) (nor (bitAt v 29) (bitAt v 30) after28);
-    }
+-- ---- the codes that are not listed
 
 pub assign-declines-40-to-4F : (v : ℕ) → 64 ≤ v → v < 80 → isValidAssign v ≡ false
 assign-declines-40-to-4F v h k = rw (lt-leb v 63 h, lt-leb 80 v k)

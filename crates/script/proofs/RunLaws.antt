@@ -1,6 +1,6 @@
 -- The laws of the loop over the lines: a turn prints the answer of one line, and there is always room for it.
 --     written-at, written-text, written-length   what writing a text that fits does to a page
---     turn-keeps-length, turn-keeps-room, turn-keeps-answers   what the loop's invariant says is kept by a turn
+--     turn-keeps-room, turn-keeps-answers   what the loop's invariant says is kept by a turn
 --     answers-none      at the end of the script nothing is left to answer
 --     no-printed        `no 6`, printed first, is all that is printed
 --     long-script, bad-first, good-first   the three ways of a script
@@ -107,12 +107,6 @@ module _ (script out out′ : List ℕ) (at printed printed′ : ℕ) (z z′ : 
     place =
         ap (λ (p : Page). p .at) told
         ∙ written-at answer out printed fits
-
-    pub turn-keeps-length : length out′ ≡ capacity
-    turn-keeps-length =
-        ap (λ (p : Page). length (p .bytes)) told
-        ∙ written-length answer out printed fits
-        ∙ full
 
     pub turn-keeps-room : printed′ + 5 * (length script - (at + (lenAt script at + 1))) ≤ capacity
     turn-keeps-room = omega (arith, turn-fits, within, place)

@@ -33,6 +33,7 @@ use Rattle.script.specs.Text.{newline, space, hexDigit, hex, isDecimal, 
 use Rattle.script.specs.Reader.{beforeFirst, linesOf, commandOf}
 use Rattle.script.specs.Printer.{outcomeText, slotText, sideAt, fieldsOf, spaced, replyText, noText}
 use Rattle.script.specs.Answers.{Session, inputsOf, lineAnswer, sessionAfter, answersFrom}
+use Rattle.script.specs.AnswerLines.{sessionAt, letters, isIn, isPlain, Plain, OneLine, newlines}
 use Rattle.script.specs.declared.reader.Command.{Command}
 use Rattle.script.specs.declared.reader.Command.the-variants.{WriteRegister, ReadRegister, WriteMemory}
 use Rattle.script.specs.declared.reader.Command.the-variants.{ReadMemory, Tick, Other}
@@ -70,10 +71,6 @@ lines-append (c ∷ a) b =
 
 -- ---- answers
 
-abbrev pub sessionAt : List (List ℕ) → Session → Session
-sessionAt [] z = z
-sessionAt (l ∷ ls) z = sessionAt ls (sessionAfter (commandOf l) z)
-
 -- [Console.5] what the lines before print does not depend on the lines after
 pub answers-so-far : (ls ms : List (List ℕ)) (z : Session) →
     answersFrom (ls ++ ms) z ≡ answersFrom ls z ++ answersFrom ms (sessionAt ls z)
@@ -84,20 +81,6 @@ answers-so-far (l ∷ ls) ms z =
     ∙ sym (append-assoc (lineAnswer (commandOf l) z) (answersFrom ls (sessionAfter (commandOf l) z)) (answersFrom ms (sessionAt ls (sessionAfter (commandOf l) z))))
 
 -- ---- what an answer is made of
-
-abbrev pub letters : List ℕ
-letters = 32 ∷ 45 ∷ 99 ∷ 101 ∷ 103 ∷ 107 ∷ 110 ∷ 111 ∷ []
-
-abbrev isIn : List ℕ → ℕ → Bool
-isIn [] b = false
-isIn (l ∷ ls) b = eqb b l || isIn ls b
-
--- [Console.8] a digit, a capital A–F, a space, `-`, or a letter of `ok`, `no`, `c`, `e`, `g`
-abbrev pub isPlain : ℕ → Bool
-isPlain b = isDecimal b || (isCapital b || isIn letters b)
-
-abbrev pub Plain : List ℕ → Type 0
-Plain t = allOf isPlain t ≡ true
 
 or-first : (p q : Bool) → p ≡ true → (p || q) ≡ true
 or-first true q h = refl
@@ -135,11 +118,6 @@ outcome-plain (Event w) = hex-plain 2 w
 outcome-plain (Tag w) = hex-plain 2 w
 
 -- ---- every answer is such bytes and one newline
-
-pub record OneLine (t : List ℕ) : Type 0 where
-  pub text : List ℕ
-  pub ends : t ≡ text ++ (newline ∷ [])
-  pub plain : Plain text
 
 data PlainFields : List (List ℕ) → Type 0 where
   none : PlainFields []
@@ -205,10 +183,6 @@ answer-is-line (Tick triggers lines acks) z =
 answer-is-line Other z = record { text = 110 ∷ 111 ∷ 32 ∷ 54 ∷ []; ends = refl; plain = refl }
 
 -- ---- as many answers as lines
-
-abbrev pub newlines : List ℕ → ℕ
-newlines [] = 0
-newlines (b ∷ bs) = cond (eqb b newline) 1 0 + newlines bs
 
 newlines-append : (a b : List ℕ) → newlines (a ++ b) ≡ newlines a + newlines b
 newlines-append [] b = omega arith

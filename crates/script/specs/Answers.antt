@@ -4,7 +4,7 @@
 --     lineAnswer      what a line prints
 --     sessionAfter    the session after it
 --     answersOf       all that a script prints
--- Own rules of 01 used here: none. Decisions: none. Left out: standard input and output, in console.
+-- Own rules of 01 used here: none. Decisions: K2, K3, K5. Left out: standard input and output, in console.
 -- Assumes nothing.
 use Prim.Native.Nat.{ℕ}
 use mathlib.Core.Bool.{Bool, true, false, _&&_}

@@ -3,5 +3,6 @@ pub mod Text
 pub mod Reader
 pub mod Printer
 pub mod Answers
+pub mod AnswerLines
 pub mod Page
 pub mod Parts

@@ -4,7 +4,7 @@
 --     hasForm         a line of a letter and fields of so many digits
 --     numberAt        the number that digits of a line write
 --     commandOf       what a line asks; Other for a line of other form
--- Own rules of 01 used here: none. Decisions: none. Left out: nothing.
+-- Own rules of 01 used here: none. Decisions: K1. Left out: nothing.
 -- Assumes nothing.
 use Prim.Native.Nat.{ℕ, zero, suc, _+_, _*_}
 use mathlib.Core.Bool.{Bool, _&&_}

@@ -150,6 +150,7 @@ fn word_at(line: &[u8], at: usize) -> u16
     number_at(line, at, 4) as u16
 }
 
+// [Console.3] one of the five kinds of line, or any other
 fn command_of(line: &[u8]) -> Command
     ensures { λ r. ⌜ r ≡ commandOf (now (line .entry)) ⌝ }
 {

@@ -4,7 +4,7 @@
 --                                the test on them
 --     to-idle-zeroes             a move to Idle leaves nothing of the event
 --     idle-stays, idle-does-not-age, aged-keeps-state   at Idle nothing moves; ageing leaves the state
---     fail-beats-pass2, fail-beats-pass3, pass3-keeps-accept2, word-is-six-bit   single rules
+--     fail-beats-pass2, fail-beats-pass3, word-is-six-bit   single rules
 --     step-loads-six-bits        the word that a step loads has six bits
 -- Assumes nothing.
 use Prim.Native.Nat.{ℕ, _+_, _*_, _/_, _%_, _^_, _<_, _≤_}
@@ -202,16 +202,6 @@ fail-beats-pass2 false pass class2 = refl
 pub fail-beats-pass3 : (late pass : Bool) → moveInWait3 true late pass ≡ moveInWait3 true late false
 fail-beats-pass3 true pass = refl
 fail-beats-pass3 false pass = refl
-
--- [Main.5] level 2 accept is not Wait 3's to raise
-pub pass3-keeps-accept2 : (t : Tests) (m : MainSequencer)
-    → isRaised accept2Line (stepBy passes3 t m .next) ≡ isRaised accept2Line m
-pass3-keeps-accept2 t m =
-    set-at (2 ^ accept3Line) (m .raised) accept2Line ∙ or-false (isRaised accept2Line m)
-  where
-    or-false : (a : Bool) → (a || false) ≡ a
-    or-false true = refl
-    or-false false = refl
 
 -- [Main.9]
 pub word-is-six-bit : (sync : Bool) (m : MainSequencer) → wordOf sync m ≤ 63

@@ -113,7 +113,7 @@ impl MainSequencer {
         self.failed(t.clear)
     }
 
-    // [Main.3] [Main.4] [Main.6]
+    // [Main.3] [Main.4] [Main.6] [Assign.2]
     pub fn in_wait2(self, t: Tests) -> MainStep
         ensures { λ r. ⌜ r ≡ stepBy (moveIn Wait2 t self) t self ⌝ }
     {
@@ -133,7 +133,7 @@ impl MainSequencer {
         quiet_step(self)
     }
 
-    // [Main.5] [Main.6]
+    // [Main.5] [Main.6] [Assign.2]
     pub fn in_wait3(self, t: Tests) -> MainStep
         ensures { λ r. ⌜ r ≡ stepBy (moveIn Wait3 t self) t self ⌝ }
     {

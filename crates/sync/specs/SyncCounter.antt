@@ -3,7 +3,7 @@
 --     isDue          the event that is loaded now is a sync event
 --     afterLoadOf    the counter after a load
 --     zeroedOf       the counter after Sync hold or a user sync has ended
--- Own rules of 01 used here: none. Decisions: S1 (a sync load leaves the count; it is zeroed where the hold ends).
+-- Own rules of 01 used here: none. Decisions: S1.
 -- Left out: nothing.
 -- Assumes nothing.
 use Prim.Native.Nat.{ℕ, _+_}

@@ -2,7 +2,7 @@
 --     document 01    "The tick", User sync
 --     moveOf         the sentence that acts
 --     stepOf         the next user sync, with what it did
--- Own rules of 01 used here: none. Decisions: U1 (neither GO nor front busy is asked; clearing CSR bit 4 ends no wait).
+-- Own rules of 01 used here: none. Decisions: U1.
 -- Left out: the CSR bits that it sets and clears, in supervisor.
 -- Assumes nothing.
 use Prim.Native.Nat.{ℕ}

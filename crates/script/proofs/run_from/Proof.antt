@@ -76,35 +76,28 @@ line-read c =
     let at = c .before .before .before .loop .at in
     c .first-line .ensures ∙ ap firstLineOf (take-all (length script - at) (drop at script) (omega (arith, length-drop at script)))
 
+-- and it ends within the script
+line-within : (c : tie.After-first-line Inv-loop μ-loop) →
+    c .before .before .before .loop .at + c .first-line .result .len ≤ length (c .before .before .before .before .before .before .before .before .args .script .now)
+line-within c =
+    let script = c .before .before .before .before .before .before .before .before .args .script .now in
+    let at = c .before .before .before .loop .at in
+    let len = ap (λ (r : Line). r .len) (line-read c) in
+    omega (arith, len, length-at-most (drop at script), length-drop at script, c .before .before .loop-test .taken)
+
 add-at : tie.Need-add-at Inv-loop μ-loop
-add-at c =
-    let l = c .before .before .before .before .before .before .before .before .before .before .before .loop in
-    let script = c .before .before .before .before .before .before .before .before .before .before .before .before .before .before .before .before .args .script .now in
-    let rest = drop (l .at) script in
-    let len = ap (λ (r : Line). r .len) (line-read (c .before .before .before .before .before .before .before .before)) in
-    omega (arith, len, length-at-most rest, length-drop (l .at) script, c .before .before .before .before .before .before .before .before .before .before .before .before .before .before .before .before .pre .0, c .before .before .before .before .before .before .before .before .before .before .loop-test .taken)
+add-at c = omega (arith, line-within (c .before .before .before .before .before .before .before .before), c .before .before .before .before .before .before .before .before .before .before .before .before .before .before .before .before .pre .0)
 
 add-at-2 : tie.Need-add-at-2 Inv-loop μ-loop
-add-at-2 c =
-    let l = c .before .before .before .before .before .before .before .before .before .before .before .loop in
-    let script = c .before .before .before .before .before .before .before .before .before .before .before .before .before .before .before .before .args .script .now in
-    let rest = drop (l .at) script in
-    let len = ap (λ (r : Line). r .len) (line-read (c .before .before .before .before .before .before .before .before)) in
-    omega (arith, len, length-at-most rest, length-drop (l .at) script, c .before .before .before .before .before .before .before .before .before .before .before .before .before .before .before .before .pre .0, c .before .before .before .before .before .before .before .before .before .before .loop-test .taken)
+add-at-2 c = omega (arith, line-within (c .before .before .before .before .before .before .before .before), c .before .before .before .before .before .before .before .before .before .before .before .before .before .before .before .before .pre .0)
 
 loop-less : tie.Need-loop-less Inv-loop μ-loop
-loop-less c =
-    let l = c .before .before .before .before .before .before .before .before .before .before .before .loop in
-    let script = c .before .before .before .before .before .before .before .before .before .before .before .before .before .before .before .before .args .script .now in
-    let rest = drop (l .at) script in
-    let len = ap (λ (r : Line). r .len) (line-read (c .before .before .before .before .before .before .before .before)) in
-    omega (arith, len, length-at-most rest, length-drop (l .at) script, c .before .before .before .before .before .before .before .before .before .before .before .before .before .before .before .before .pre .0, c .before .before .before .before .before .before .before .before .before .before .loop-test .taken)
+loop-less c = omega (arith, line-within (c .before .before .before .before .before .before .before .before), c .before .before .before .before .before .before .before .before .before .before .before .before .before .before .before .before .pre .0)
 
 loop-again : tie.Need-loop-again Inv-loop μ-loop
 loop-again c =
     let l = c .before .before .before .before .before .before .before .before .before .before .before .loop in
     let script = c .before .before .before .before .before .before .before .before .before .before .before .before .before .before .before .before .args .script .now in
-    let rest = drop (l .at) script in
     let len = ap (λ (r : Line). r .len) (line-read (c .before .before .before .before .before .before .before .before)) in
     let run = c .before .before .before .before .before .run-line in
     let more = c .before .before .before .before .before .before .before .before .before .before .loop-test .taken in
@@ -115,7 +108,7 @@ loop-again c =
     let answers = turn-keeps-answers script (l .out) _ (l .at) (l .printed) (run .result .at) _ _ more (l .inv .0) (l .inv .3) told next _ (l .inv .4) in (
       run .kept .1 .1 .1 .0 ∙ l .inv .0,
       run .kept .1 .0 ∙ l .inv .1,
-      omega (arith, len, length-at-most rest, length-drop (l .at) script, c .before .before .before .before .before .before .before .before .before .before .before .before .before .before .before .before .pre .0, c .before .before .before .before .before .before .before .before .before .before .loop-test .taken),
+      omega (arith, line-within (c .before .before .before .before .before .before .before .before), c .before .before .before .before .before .before .before .before .before .before .before .before .before .before .before .before .pre .0),
       rw len room,
       rw len answers,
     )
