@@ -1,12 +1,17 @@
 #!/usr/bin/env python3
 """trace.py [--check]: docs/TRACE.md from the tags in the files: for each sentence of document 01 that rules the machine,
-the account or the console, what states it, and the laws, must-fail edits and cases that would break without it. The tags are
-docs/tags.txt. A tag that is not there is refused, and a ruling sentence that no definition cites is named. With --check
-nothing is written: the file must be what would be written. Run it in the repository's folder."""
+the account or the console, the definition that states it, the code that does it, the laws about it and the must-fail edits
+that break it. docs/tags.txt has the tags, each with the sentence in our words and, where no edit can break it, why.
+Refused: a tag that is not there; a ruling sentence that no definition cites; one with neither an edit nor a reason. With
+--check nothing is written: the file must be what would be written. Run it in the repository's folder."""
 import glob, os, re, sys
 
-tags = [l.strip() for l in open('docs/tags.txt') if l.strip()]
-ruling = [t for t in tags if not t.startswith(('Scope', 'Lab', 'Forms', 'Bench')) and t not in ('Console.9', 'Console.10', 'Answer.2')]
+table = [l.rstrip('\n').split('\t') for l in open('docs/tags.txt') if l.strip()]
+tags = [l[0] for l in table]
+words = {l[0]: l[1] if len(l) > 1 else '' for l in table}
+reason = {l[0]: l[2] if len(l) > 2 else '' for l in table}
+examples = [t for t in tags if t.startswith('Bench') or t in ('Console.9', 'Console.10') or (t.startswith('Lab') and words[t])]
+ruling = [t for t in tags if words[t] and t not in examples]
 TAG = re.compile(r'\[([A-Z][A-Za-z]+\.\d+[a-z]?)\](?:–\[([A-Z][A-Za-z]+\.\d+[a-z]?)\])?')
 faults = []
 
@@ -25,74 +30,82 @@ def tags_in(text, where):
 
 
 NAME = re.compile(r'^\s*(?:(?:abbrev|unfoldable)\s+)?(?:pub\s+)?(?:(?:record|data)\s+)?([A-Za-z0-9_\'·-]+)\s*(?::|\(|\{)')
-FN = re.compile(r'^\s*(?:pub\s+)?(?:const|fn|struct|enum|extern "C" fn)\s+([A-Za-z0-9_]+)')
+ITEM = re.compile(r'^\s*(?:pub\s+)?(?:const|fn|struct|enum|extern "C" fn)\s+([A-Za-z0-9_]+)')
 
 
 def cited(files, mark, name):
-    """(tag, name, words) of each comment that cites a tag, with the name declared next after it"""
+    """(tag, link) of each comment that cites a tag, to the name declared next after it"""
     for f in files:
         lines = open(f).read().split('\n')
         for i, l in enumerate(lines):
             s = l.strip()
             if not s.startswith(mark) or not TAG.search(s):
                 continue
-            words = re.sub(r'\s+', ' ', TAG.sub('', s[len(mark):])).strip(' ;:,')
             for j in range(i + 1, min(i + 14, len(lines))):
                 t = lines[j].strip()
-                if t.startswith(mark):
-                    if not TAG.search(t) and j == i + 1:
-                        words = (words + ' ' + t[len(mark):].strip()).strip()
-                    continue
-                if not t or t.startswith(('unfolding', 'module')):
+                if not t or t.startswith((mark, 'unfolding', 'module', '#[')):
                     continue
                 m = name.match(lines[j])
                 if m:
                     for tag in tags_in(s, f):
-                        yield tag, m.group(1), words, f
+                        yield tag, '[%s](../%s)' % (m.group(1), f)
                 break
 
 
-rows = {t: {'words': [], 'defs': [], 'held': []} for t in tags}
-crate = lambda f: f.split('/')[1]
-for tag, n, words, f in cited(sorted(glob.glob('crates/*/specs/*.antt')), '--', NAME):
-    rows[tag]['defs'].append('%s `%s`' % (crate(f), n))
-    if words and words not in rows[tag]['words'] and not words.startswith('DECISIONS'):
-        rows[tag]['words'].append(words)
-for tag, n, words, f in cited(sorted(glob.glob('crates/*/proofs/*.antt')), '--', NAME):
-    rows[tag]['held'].append('%s `%s`' % (crate(f), n))
+found = {kind: {t: [] for t in tags} for kind in ('definition', 'code', 'law', 'edit')}
+for kind, pattern, mark, name in (('definition', 'crates/*/specs/*.antt', '--', NAME),
+                                  ('code', 'crates/*/src/**/*.rt', '//', ITEM),
+                                  ('law', 'crates/*/proofs/*.antt', '--', NAME)):
+    # the examples' own words after the machine's
+    for tag, link in cited(sorted(glob.glob(pattern, recursive=True), key=lambda f: (f.startswith('crates/bench/'), f)), mark, name):
+        found[kind][tag].append(link)
 for f in sorted(glob.glob('crates/*/must-fail/*.edit')):
     for tag in tags_in(open(f).readline(), f):
-        rows[tag]['held'].append('edit `%s/%s`' % (crate(f), os.path.basename(f)[:-5]))
-for f in sorted(glob.glob('crates/*/src/**/*.rt', recursive=True)) + sorted(glob.glob('docs/*.md')):
-    for l in open(f):
-        if '/TRACE.md' not in f:
-            tags_in(l, f)
+        found['edit'][tag].append('[%s](../%s)' % (os.path.basename(f)[:-5], f))
+for f in sorted(glob.glob('docs/*.md')):
+    if not f.endswith('TRACE.md'):
+        tags_in(open(f).read(), f)
 
-once = lambda l: list(dict.fromkeys(l))
-text = '''# From document 01 to the definitions
 
-A row for every sentence of document 01 that rules the machine, the account or the console, by its tag. The middle column is
-what we say it says; the last is what breaks without it: a law of `proofs/`, or a must-fail edit. Made by `tools/trace.py`
-from the tags in the files; `tools/trace.py --check` refuses a row that is no longer true.
+def cell(kind, t, most):
+    links = list(dict.fromkeys(found[kind][t]))
+    more = ' and %d more' % (len(links) - most) if len(links) > most else ''
+    return ', '.join(links[:most]) + more
 
-| Sentence | In our words | Stated by | Held by |
+
+text = '''# From document 01 to the definitions, and back
+
+A row for each sentence of document 01 that rules the machine, the account or the console, by its tag. From left to right:
+what it says, in our words; the definition that states it, which is what a buyer believes; the code that does it, whose
+contract is an equality with that definition; the laws about it, where there are any; and the must-fail edits: wrong machines,
+or wrong statements, that the prover refuses because of this sentence. Each name leads to its file.
+
+`tools/trace.py` makes this page from the tags in the files and from [tags.txt](tags.txt); `tools/trace.py --check` refuses a
+row that is no longer true, a tag that does not exist, and a sentence without a definition or an edit.
+
+| Sentence | In our words | Definition | Code | Laws | Must-fail edits |
+|---|---|---|---|---|---|
+'''
+for t in ruling:
+    edits = cell('edit', t, 4) or 'none: ' + reason[t]
+    text += '| %s | %s | %s | %s | %s | %s |\n' % (
+        t, words[t], cell('definition', t, 5), cell('code', t, 4), cell('law', t, 4), edits)
+    if not found['definition'][t]:
+        faults.append('no definition cites [%s]' % t)
+    if not found['edit'][t] and not reason[t]:
+        faults.append('no edit breaks [%s], and docs/tags.txt does not say why' % t)
+text += '''
+## Examples, misreadings and impostors
+
+| Sentence | In our words | Stated in | Must-fail edits |
 |---|---|---|---|
 '''
-left = []
-for t in ruling:
-    r = rows[t]
-    if not r['defs']:
-        left.append(t)
-    cut = lambda l: '; '.join(once(l)[:6]).replace('|', '\\|')
-    text += '| %s | %s | %s | %s |\n' % (t, cut(r['words'][:2]), cut(r['defs']), cut(r['held']))
+for t in examples:
+    where = cell('definition', t, 3) or cell('law', t, 3)
+    text += '| %s | %s | %s | %s |\n' % (t, words[t], where, cell('edit', t, 4))
 for x in faults:
     print(x)
-print('%d of %d sentences are stated, %d faults' % (len(ruling) - len(left), len(ruling), len(faults)))
-for t in left:
-    print('   no definition cites [%s]' % t)
-for t in ruling:
-    if rows[t]['defs'] and not rows[t]['held']:
-        print('   nothing holds [%s] but its definition and its contract' % t)
+print('%d sentences, %d faults' % (len(ruling), len(faults)))
 if '--check' in sys.argv:
     same = os.path.exists('docs/TRACE.md') and open('docs/TRACE.md').read() == text
     if not same:
