@@ -4,20 +4,20 @@
 --     emptied-of-four      four fresh branches are a readout emptied
 --     gathered-of-four     four steps put together are the step of the readout, for `stepped`
 --     quiet-is-silent      with every branch quiet and nothing to load nothing moves, for `step`
---     blank-is-well-formed four branches with nothing in any place spoil no record, for `is_well_formed`
+--     quiet-is-well-formed quiet branches spoil no record if no place holds anything, for `is_well_formed`
 -- Assumes nothing.
-use Prim.Native.Nat.{ℕ, _<_}
+use Prim.Native.Nat.{ℕ, zero, suc, _<_}
 use mathlib.Core.Path.{_≡_, refl, sym, ap, _∙_}
 use mathlib.Core.Bool.{Bool, true, false, not, _&&_, _||_, true≢false}
 use mathlib.Core.List.{List, [], _∷_, map}
 use native.Mathlib.Omega.{arith}
 use lib.Dec.{eqb, ltb}
 use lib.ListN.{length, length-map, replicate}
-use borrow.Author.Tests.{eqb-true, ltb-false, lt-ltb, not-true}
+use borrow.Author.Tests.{ltb-true, ltb-false, ne-eqb, not-true}
 use Rattle.bits.specs.Notation.{_▷_}
 use Rattle.bits.specs.Bits.{tabulate, every}
 use Rattle.bits.specs.Bytes.{bytes}
-use Rattle.bits.proofs.TestLaws.{and-left, and-right, and-both, every-at, at-every}
+use Rattle.bits.proofs.TestLaws.{every-at}
 use Rattle.bits.proofs.BitsLaws.{tabulate-same, tabulate-getD}
 use Rattle.branch.specs.Branch as branch
 use Rattle.branch.specs.Slots.{isWordOf}
@@ -30,7 +30,7 @@ use Rattle.branch.specs.declared.Branch.{Branch}
 use Rattle.branch.specs.declared.BranchStep.{BranchStep}
 use Rattle.branches.specs.ReadoutFields.{withBranches, branchAt}
 use Rattle.branches.specs.Readout.{emptiedOf, isQuietOf, stepAt, sideAfterOf, stepOf, gatheredOf, noSide, silentOf}
-use Rattle.branches.specs.Readout.{isSoundBranchOf, isBlankOf, isWellFormedOf}
+use Rattle.branches.specs.Readout.{isSoundBranchOf, isWellFormedOf}
 use Rattle.branches.specs.declared.Readout.{Readout}
 use Rattle.branches.specs.declared.Side.{Side}
 
@@ -79,29 +79,42 @@ quiet-is-silent acks load r four quiet none =
     let next = branches ∙ tabulate-getD (r .branches) branch.freshOf in
     sym (λ j. record { next = r ▷ withBranches (next j); sides = (sides ∙ nothing) j })
 
--- ---- nothing to refuse
+-- ---- quiet branches are told by their places
 
-blank-is-sound-branch : (eight : Bool) (phase : Phase) (words len : ℕ) → words ≡ 0 → (branch.isRestOf phase && not (ltb 0 len)) ≡ true
-    → isSoundBranchOf eight (record { words = words; len = len; phase = phase }) ≡ true
+every-same : (n : ℕ) (f g : ℕ → Bool) → ((i : ℕ) → i < n → f i ≡ g i) → every n f ≡ every n g
+unfolding every
+every-same zero f g h = refl
+every-same (suc n) f g h =
+    λ j. h 0 (omega arith) j && every-same n (λ i. f (suc i)) (λ i. g (suc i)) (λ i k. h (suc i) (omega arith)) j
+
+quiet-is-sound-branch : (eight : Bool) (phase : Phase) (words len : ℕ) → (branch.isRestOf phase && not (ltb 0 len)) ≡ true
+    → eqb words 0 ≡ isSoundBranchOf eight (record { words = words; len = len; phase = phase })
 unfolding branch.isWellFormedOf bytes
-blank-is-sound-branch eight Rest words len zero h =
+quiet-is-sound-branch eight Rest words len h =
     let none : len ≡ 0 = omega (arith, ltb-false 0 len (not-true (ltb 0 len) h)) in
-    rw (zero, none) (either eight)
+    rw none (go (ltb words 1) refl eight)
   where
-    either : (eight : Bool) → ((eight || true) && true) ≡ true
-    either true = refl
-    either false = refl
-blank-is-sound-branch eight Strobe words len zero h = absurd (true≢false (sym h))
-blank-is-sound-branch eight Drop words len zero h = absurd (true≢false (sym h))
+    zero-words : ltb words 1 ≡ true → words ≡ 0
+    zero-words e = omega (arith, ltb-true words 1 e)
 
-pub blank-is-well-formed : (eight : Bool) (r : Readout) → length (r .branches) ≡ 4
-    → every (length (r .branches)) (λ k. isBlankOf (branchAt (r .branches) k)) ≡ true → isWellFormedOf eight r ≡ true
-unfolding isWellFormedOf
-blank-is-well-formed eight r four h =
-    at-every (length (r .branches)) (λ k. isSoundBranchOf eight (branchAt (r .branches) k))
+    some-words : ltb words 1 ≡ false → eqb words 0 ≡ false
+    some-words e = ne-eqb words 0 (λ z. omega (arith, z, ltb-false words 1 e))
+
+    go : (t : Bool) → ltb words 1 ≡ t → (eight : Bool)
+        → eqb words 0 ≡ isSoundBranchOf eight (record { words = words; len = 0; phase = Rest })
+    go true e true = rw (zero-words e)
+    go true e false = rw (zero-words e)
+    go false e true = rw (e, some-words e)
+    go false e false = rw (e, some-words e)
+quiet-is-sound-branch eight Strobe words len h = absurd (true≢false (sym h))
+quiet-is-sound-branch eight Drop words len h = absurd (true≢false (sym h))
+
+pub quiet-is-well-formed : (eight : Bool) (r : Readout) → isQuietOf r ≡ true
+    → every (length (r .branches)) (λ k. eqb (branchAt (r .branches) k .words) 0) ≡ isWellFormedOf eight r
+unfolding isQuietOf isWellFormedOf
+quiet-is-well-formed eight r quiet =
+    let bs : List Branch = r .branches in
+    every-same (length bs) (λ k. eqb (branchAt bs k .words) 0) (λ k. isSoundBranchOf eight (branchAt bs k))
     (λ k i.
-    let b : Branch = branchAt (r .branches) k in
-    let blank = every-at (length (r .branches)) (λ k. isBlankOf (branchAt (r .branches) k)) h k i in
-    blank-is-sound-branch eight (b .phase) (b .words) (b .len)
-    (eqb-true (b .words) 0 (and-left (eqb (b .words) 0) (branch.isQuietOf b) blank))
-    (and-right (eqb (b .words) 0) (branch.isQuietOf b) blank))
+    let b : Branch = branchAt bs k in
+    quiet-is-sound-branch eight (b .phase) (b .words) (b .len) (every-at (length bs) (λ k. branch.isQuietOf (branchAt bs k)) quiet k i))

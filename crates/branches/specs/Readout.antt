@@ -102,9 +102,5 @@ silentOf r = record { next = r; sides = noSide ∷ noSide ∷ noSide ∷ noSide 
 abbrev pub isSoundBranchOf : (eight : Bool) → Branch → Bool
 isSoundBranchOf eight b = (eight || branch.hasRoomOf b) && branch.isWellFormedOf b
 
--- a branch with nothing in any place, which spoils no record
-abbrev pub isBlankOf : Branch → Bool
-isBlankOf b = eqb (b .words) 0 && branch.isQuietOf b
-
 unfoldable pub isWellFormedOf : (eight : Bool) → Readout → Bool
 isWellFormedOf eight r = everyBranch (λ k b. isSoundBranchOf eight b) r

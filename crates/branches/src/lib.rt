@@ -5,7 +5,7 @@ ghost use mathlib.Core.Path.{_≡_};
 ghost use lib.ListN.{length};
 ghost use Rattle.branches.specs.Readout.{moduleBranches, freshOf, emptiedOf, isEmptyOf, hasRoomOf};
 ghost use Rattle.branches.specs.Readout.{isQuietOf, sideAfterOf, gatheredOf, silentOf, stepOf};
-ghost use Rattle.branches.specs.Readout.{isSoundBranchOf, isBlankOf, isWellFormedOf};
+ghost use Rattle.branches.specs.Readout.{isSoundBranchOf, isWellFormedOf};
 ghost use Rattle.bits.specs.Notation.{if_then_else_};
 ghost use Rattle.branch.specs.Branch.{queueDepth};
 use branch::Branch;
@@ -75,13 +75,6 @@ fn is_sound_branch(b: Branch, eight: bool) -> bool
     ensures { λ r. ⌜ r ≡ isSoundBranchOf eight b ⌝ }
 {
     (eight | b.has_room()) & b.is_well_formed()
-}
-
-// A branch with nothing in any place.
-fn is_blank(b: Branch) -> bool
-    ensures { λ r. ⌜ r ≡ isBlankOf b ⌝ }
-{
-    (b.words == 0) & b.is_quiet()
 }
 
 impl Readout {
@@ -193,7 +186,8 @@ impl Readout {
         self.stepped(acks, load)
     }
 
-    // [Spoiled.1d] [Spoiled.1f] [Spoiled.1g] eight: a queue may hold eight words
+    // [Spoiled.1d] [Spoiled.1f] [Spoiled.1g] eight: a queue may hold eight words.
+    // Quiet branches, the common case, spoil nothing if no place holds anything.
     pub fn is_well_formed(self, eight: bool) -> bool
         ensures { λ r. ⌜ r ≡ isWellFormedOf eight self ⌝ }
     {
@@ -202,8 +196,9 @@ impl Readout {
         let b1 = bs[1];
         let b2 = bs[2];
         let b3 = bs[3];
-        if is_blank(b0) & (is_blank(b1) & (is_blank(b2) & (is_blank(b3) & true))) {
-            return true;
+        if self.is_quiet() {
+            return (b0.words == 0)
+                & ((b1.words == 0) & ((b2.words == 0) & ((b3.words == 0) & true)));
         }
         is_sound_branch(b0, eight)
             & (is_sound_branch(b1, eight)

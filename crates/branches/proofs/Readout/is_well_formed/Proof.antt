@@ -1,11 +1,12 @@
--- `branches::Readout::is_well_formed` meets its contract: four blank branches spoil nothing (`blank-is-well-formed`); else each is tested (`every-of-four`).
+-- `branches::Readout::is_well_formed` meets its contract: quiet branches are told by their places (`quiet-is-well-formed`); else each is tested (`every-of-four`).
 -- Written by tools/prove.py; the answers to `returns` were written by hand. Assumes nothing.
 use Rattle.branches.specs.Readout.{isWellFormedOf}
 use mathlib.Core.Path.{sym, _∙_}
+use lib.Dec.{eqb}
 use lib.ListN.{length}
-use Rattle.branches.specs.Readout.{isBlankOf, isSoundBranchOf}
+use Rattle.branches.specs.Readout.{isSoundBranchOf}
 use Rattle.branches.specs.ReadoutFields.{branchAt}
-use Rattle.branches.proofs.ReadoutChoices.{four-from, every-of-four, blank-is-well-formed}
+use Rattle.branches.proofs.ReadoutChoices.{four-from, every-of-four, quiet-is-well-formed}
 use borrow.Author.Needs.{needs}
 use Rattle.branches.proofs.Readout.is_well_formed.Statement.{statement}
 use Rattle.branches.proofs.Readout.is_well_formed.Tie as tie
@@ -22,32 +23,18 @@ array-copy-out-b2 c = search needs
 array-copy-out-b3 : tie.Need-array-copy-out-b3
 array-copy-out-b3 c = search needs
 
-is-blank-requires : tie.Need-is-blank-requires
-is-blank-requires c κs = search needs
-
-is-blank-requires-2 : tie.Need-is-blank-requires-2
-is-blank-requires-2 c κs = search needs
-
-is-blank-requires-3 : tie.Need-is-blank-requires-3
-is-blank-requires-3 c κs = search needs
-
-is-blank-requires-4 : tie.Need-is-blank-requires-4
-is-blank-requires-4 c κs = search needs
+is-quiet-requires : tie.Need-is-quiet-requires
+is-quiet-requires c κs = search needs
 
 returns : tie.Need-returns
 returns c =
-    let start = c .before .before .before .before .before .before .before .before .before .before in
+    let tested = c .before .before .before .before in
+    let start = tested .before .before .before .before .before .before .before in
     let four = four-from _ (start .args .self .branches) (start .good .0 .1 .1 .0 .1 .0 .1) in
     let a = start .args in
     let bs = a .self .branches in
-    let tests = every-of-four (length bs) (λ k. isBlankOf (branchAt bs k)) four in
-    let blank = rw (
-      c .before .is-blank4 .ensures,
-      c .before .before .is-blank3 .ensures,
-      c .before .before .before .is-blank2 .ensures,
-      c .before .before .before .before .is-blank .ensures,
-    ) at (c .if1 .taken) in
-    sym (blank-is-well-formed (a .eight) (a .self) four (sym tests ∙ blank))
+    let quiet = sym (tested .before .is-quiet .ensures) ∙ tested .if1 .taken in
+    every-of-four (length bs) (λ k. eqb (branchAt bs k .words) 0) four ∙ quiet-is-well-formed (a .eight) (a .self) quiet
 
 is-sound-branch-requires : tie.Need-is-sound-branch-requires
 is-sound-branch-requires c κs = search needs
@@ -64,7 +51,7 @@ is-sound-branch-requires-4 c κs = search needs
 returns-2 : tie.Need-returns-2
 unfolding isWellFormedOf
 returns-2 c =
-    let start = c .before .before .before .before .before .before .before .before .before .before .before .before .before .before in
+    let start = c .before .before .before .before .before .before .before .before .before .before .before in
     let four = four-from _ (start .args .self .branches) (start .good .0 .1 .1 .0 .1 .0 .1) in
     let a = start .args in
     let bs = a .self .branches in
@@ -83,10 +70,7 @@ is-well-formed-spec =
     array-copy-out-b1
     array-copy-out-b2
     array-copy-out-b3
-    is-blank-requires
-    is-blank-requires-2
-    is-blank-requires-3
-    is-blank-requires-4
+    is-quiet-requires
     returns
     is-sound-branch-requires
     is-sound-branch-requires-2
