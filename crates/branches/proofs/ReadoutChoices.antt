@@ -1,5 +1,6 @@
 -- The code's four branches are the definitions' list: what it tests and builds one by one, and what it need not look at.
 --     four-from            an array of four branches has four
+--     four-in-a-row        the list of an array's four places is the array, for `silent`
 --     every-of-four        four tests in a row are the test of every branch
 --     emptied-of-four      four fresh branches are a readout emptied
 --     gathered-of-four     four steps put together are the step of the readout, for `stepped`
@@ -39,6 +40,11 @@ use Rattle.branches.specs.declared.Side.{Side}
 -- an array of the code has four branches: the prover says it of the list of their parts
 pub four-from : {A : Type 0} (f : Branch → A) (bs : List Branch) → length (map f bs) ≡ 4 → length bs ≡ 4
 four-from f bs h = sym (length-map bs f) ∙ h
+
+pub four-in-a-row : (bs : List Branch) → length bs ≡ 4
+    → branchAt bs 0 ∷ branchAt bs 1 ∷ branchAt bs 2 ∷ branchAt bs 3 ∷ [] ≡ bs
+unfolding tabulate
+four-in-a-row bs h = ap (λ (k : ℕ). tabulate k (branchAt bs)) (sym h) ∙ tabulate-getD bs branch.freshOf
 
 pub every-of-four : (n : ℕ) (f : ℕ → Bool) → n ≡ 4 → (f 0 && (f 1 && (f 2 && (f 3 && true)))) ≡ every n f
 unfolding every

@@ -30,6 +30,18 @@ pub struct ReadoutStep {
     pub sides: [Side; 4],
 }
 
+// The same branch, field by field: the bytes between its fields are not copied, which saves time.
+fn rebuilt(b: Branch) -> Branch
+    ensures { λ r. ⌜ r ≡ b ⌝ }
+{
+    let phase = b.phase;
+    Branch {
+        words: b.words,
+        len: b.len,
+        phase,
+    }
+}
+
 fn side_after(s: BranchStep) -> Side
     ensures { λ r. ⌜ r ≡ sideAfterOf s ⌝ }
 {
@@ -153,8 +165,17 @@ impl Readout {
             finished: Slot::Nothing,
             shown: Slot::Nothing,
         };
+        let bs = self.branches;
+        let b0 = bs[0];
+        let b1 = bs[1];
+        let b2 = bs[2];
+        let b3 = bs[3];
+        let next = Readout {
+            branches: [rebuilt(b0), rebuilt(b1), rebuilt(b2), rebuilt(b3)],
+            roc: self.roc,
+        };
         ReadoutStep {
-            next: self,
+            next,
             sides: [none, none, none, none],
         }
     }
