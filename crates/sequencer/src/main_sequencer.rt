@@ -118,17 +118,18 @@ impl MainSequencer {
         }
     }
 
-    // [Main.1] in a cycle one tick older, up to the limit
+    // [Main.1] in a cycle one tick older, up to the limit; built field by field, as with_state does, for speed
     pub fn aged(self) -> MainSequencer
         ensures { λ r. ⌜ r ≡ agedOf self ⌝ }
     {
         let state = self.state;
-        let mut next = self;
+        let age = self.age;
+        let mut next = self.with_state(state);
         if state.is_idle() {
             return next;
         }
-        if next.age < MainSequencer::AGE_LIMIT {
-            next.age = next.age + 1;
+        if age < MainSequencer::AGE_LIMIT {
+            next.age = age + 1;
         }
         next
     }

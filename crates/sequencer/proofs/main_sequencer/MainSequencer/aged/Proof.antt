@@ -1,4 +1,4 @@
--- `sequencer::main_sequencer::MainSequencer::aged` meets its contract: at Idle and at the limit nothing moves, else the age is one more.
+-- `sequencer::main_sequencer::MainSequencer::aged` meets its contract: at Idle and at the limit the fields stay as they were, else the age is one more.
 -- Written by tools/prove.py; no answer was changed by hand. Assumes nothing.
 use Rattle.sequencer.specs.MainSequencer.{agedOf}
 use borrow.Author.Tests.{le-ltb, lt-ltb}
@@ -6,12 +6,15 @@ use borrow.Author.Needs.{needs}
 use Rattle.sequencer.proofs.main_sequencer.MainSequencer.aged.Statement.{statement}
 use Rattle.sequencer.proofs.main_sequencer.MainSequencer.aged.Tie as tie
 
+with-state-requires : tie.Need-with-state-requires
+with-state-requires c κs = search needs
+
 is-idle-requires : tie.Need-is-idle-requires
 is-idle-requires c κs = search needs
 
 returns : tie.Need-returns
 unfolding agedOf
-returns c = rw (← c .before .is-idle .ensures, c .if1 .taken)
+returns c = rw (c .before .before .with-state .ensures, ← c .before .is-idle .ensures, c .if1 .taken)
 
 add-next : tie.Need-add-next
 add-next c = search needs
@@ -20,19 +23,22 @@ returns-2 : tie.Need-returns-2
 unfolding agedOf
 returns-2 c =
     rw (
-      lt-ltb _ _ (c .before .if2 .taken),
-      ← c .before .before .before .before .is-idle .ensures,
-      c .before .before .before .if1 .left,
+      c .before .before .before .with-state .ensures,
+      lt-ltb _ _ (c .if2 .taken),
+      ← c .before .before .is-idle .ensures,
+      c .before .if1 .left,
     )
 
 returns-3 : tie.Need-returns-3
 unfolding agedOf
 returns-3 c =
     rw (
+      c .before .before .before .with-state .ensures,
       le-ltb _ _ (c .if2 .left),
-      ← c .before .before .before .is-idle .ensures,
-      c .before .before .if1 .left,
+      ← c .before .before .is-idle .ensures,
+      c .before .if1 .left,
     )
 
 pub aged-spec : {M : Type 1} → statement M
-aged-spec = tie.close (tie.spec is-idle-requires returns add-next returns-2 returns-3)
+aged-spec =
+    tie.close (tie.spec with-state-requires is-idle-requires returns add-next returns-2 returns-3)
