@@ -53,11 +53,19 @@ def cited(files, mark, name):
 
 
 found = {kind: {t: [] for t in tags} for kind in ('definition', 'code', 'law', 'edit')}
-for kind, pattern, mark, name in (('definition', 'crates/*/specs/*.antt', '--', NAME),
-                                  ('code', 'crates/*/src/**/*.rt', '//', ITEM),
-                                  ('law', 'crates/*/proofs/*.antt', '--', NAME)):
-    # the examples' own words after the machine's
-    for tag, link in cited(sorted(glob.glob(pattern, recursive=True), key=lambda f: (f.startswith('crates/bench/'), f)), mark, name):
+
+
+def files(pattern, but=None):
+    """the examples' own words after the machine's"""
+    named = [f for f in glob.glob(pattern, recursive=True) if but is None or not f.startswith(but)]
+    return sorted(named, key=lambda f: (f.startswith('crates/bench/'), f))
+
+
+# a claim restates a law
+for kind, named, mark, name in (('definition', files('crates/*/specs/*.antt', but='crates/claims/'), '--', NAME),
+                                ('code', files('crates/*/src/**/*.rt'), '//', ITEM),
+                                ('law', files('crates/claims/specs/*.antt') + files('crates/*/proofs/*.antt'), '--', NAME)):
+    for tag, link in cited(named, mark, name):
         found[kind][tag].append(link)
 for f in sorted(glob.glob('crates/*/must-fail/*.edit')):
     for tag in tags_in(open(f).readline(), f):

@@ -4,6 +4,7 @@
 --     Followed, followedOf    the parts of the record that the account follows
 --     Prescaling              the prescalers' part
 --     Ordering                one branch's part
+--     AddsUp, Follows         the masks' part, and the events'
 --     Invariant               all of it
 -- Assumes nothing.
 use Prim.Native.Nat.{ℕ, _+_, _<_, _≤_}

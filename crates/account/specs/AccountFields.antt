@@ -32,7 +32,7 @@ pub record Account : Type 0 where
   pub control : ℕ
   -- of each input
   pub factor : ℕ → ℕ
-  -- counted pulses not stopped, and those passed, since the prescaler was last loaded
+  -- counted pulses not stopped, and those passed, since its factor was last written, RESET or INITIALIZE
   pub n : ℕ → ℕ
   pub p : ℕ → ℕ
   pub sums : Sums

@@ -34,7 +34,7 @@ pub record Balanced (branches : ℕ) (s : Supervisor) (a : Account) : Type 0 whe
   pub number : length (s .readout .branches) ≡ branches
   -- [Account.15] [Account.16] finished, then held, are the words loaded, in order
   pub order : (k : ℕ) → k < branches → a .finished k ++ heldAt s k ≡ a .words
-  -- [Account.16] at most eight are held
+  -- [Main.13] [Spoiled.1f] at most eight are held
   pub eight : (k : ℕ) → k < branches → length (heldAt s k) ≤ queueDepth
   -- [Account.11] each counted pulse is in exactly one mask
   pub pulses : (i : ℕ) → i < inputs
@@ -44,7 +44,7 @@ pub record Balanced (branches : ℕ) (s : Supervisor) (a : Account) : Type 0 whe
   pub events : a .events .accepted ≡ a .events .cleared + a .events .loaded + oneIfOf (a .events .undecided)
   -- [Account.18] main holds the undecided one
   pub decides : a .events .undecided ≡ isUndecided (s .core .main .state)
-  -- [Account.17] of n pulses not stopped since the load n div (F + 1) passed
+  -- [Account.17] of n pulses not stopped since the factor was written n div (F + 1) passed
   pub prescales : (i : ℕ) → i < inputs → a .p i ≡ a .n i / (a .factor i + 1)
 
 -- [Account.1]

@@ -3,7 +3,7 @@
 --     Example       a row: given these asks, ask those, look at this in each reply to those, see these numbers
 --     p1 .. p9      the rows, one for each thing that a sentence says
 --     examples      the table; allRight: each row sees what it says
--- Input 1 pulses in every row; a mask is then 1 or 0. The n-th tick after an accept is made at age n ([Main.1]).
+-- Where a row has pulses they are of input 1: a mask is then 1 or 0. The n-th tick after an accept is made at age n ([Main.1]).
 -- Own rules of 01 used here: fail beats pass. Decisions: none. Left out: the misreadings, in proofs/Misreadings.
 -- Assumes nothing.
 use Prim.Native.Nat.{ℕ, _+_}
@@ -151,7 +151,8 @@ sameNumbers [] (m ∷ ms) = false
 sameNumbers (n ∷ ns) [] = false
 sameNumbers (n ∷ ns) (m ∷ ms) = eqb n m && sameNumbers ns ms
 
-abbrev viewed : (Reply → List ℕ) → List Reply → List ℕ
+-- what the view gives of all replies, in order
+abbrev pub viewed : (Reply → List ℕ) → List Reply → List ℕ
 viewed view [] = []
 viewed view (r ∷ rs) = view r ++ viewed view rs
 

@@ -3,7 +3,8 @@
 --     set-at, clear-at           bit i of a word with bits set or cleared
 --     shift-at, half-at          bit i of w / 2 ^ k is bit k + i of w; of w / 2 it is bit i + 1
 --     low-at                     bit i of w % 2 ^ n is that of w below n
---     mask-at, mask-lt           bit i of the word that bits make is bit i of the rule; it has no further bit
+--     mask-at, mask-at-below, mask-lt   bit i of the word that bits make is bit i of the rule; it has no further bit
+--     zero-at, no-bit-is-zero    the word with no bit is 0
 --     mask-of-bits               a word's own bits make the word again, cut to the width
 --     tabulate-at, -past, -length, -getD   the elements of a table
 --     mask-same, mask-none, tabulate-same  rules that agree below n make the same word, the same table

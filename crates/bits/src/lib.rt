@@ -46,7 +46,7 @@ pub fn set(word: u32, mask: u32) -> u32
     word | mask
 }
 
-// Set first and then flipped.
+// Set first and then flipped: no width has to be known.
 pub fn clear(word: u32, mask: u32) -> u32
     ensures { λ r. ⌜ r ≡ clearOf mask word ⌝ }
 {

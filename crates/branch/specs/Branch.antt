@@ -5,7 +5,7 @@
 --     afterMove        the branch after it
 --     stepOf           a tick of the branch: the move (movedOf), then the load (appendedOf)
 --     isWellFormedOf   nothing in this branch spoils the record; WellFormedBranch says the same as facts
--- Own rules of 01 used here: none. Decisions: B1–B3. Left out: the depth of 1 by CSR bits 9 and 10, in branches.
+-- Own rules of 01 used here: none. Decisions: B1–B3, B5. Left out: the depth of 1 by CSR bits 9 and 10, in branches.
 -- Assumes nothing.
 use Prim.Native.Nat.{ℕ, _+_, _-_, _*_, _/_, _%_, _^_, _<_, _≤_}
 use mathlib.Core.Path.{_≡_}

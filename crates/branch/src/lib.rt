@@ -33,7 +33,7 @@ pub enum Slot {
 pub struct Branch {
     // place j is byte j
     pub words: u64,
-    // how many places are used; as wide as a register, since each shift is by a multiple of it
+    // how many places are used; DECISIONS F1 has the width
     pub len: u32,
     pub phase: Phase,
 }
@@ -164,8 +164,10 @@ fn are_six_bit(words: u64) -> bool
 }
 
 impl Branch {
+    // [Main.13]
     pub const DEPTH: u32 = 8;
 
+    // [Spoiled.1f] 3Fh
     pub const WORD_LIMIT: u64 = 63;
 
     // [Registers.4] no word, at rest

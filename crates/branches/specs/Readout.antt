@@ -6,7 +6,7 @@
 --     stepOf          a tick of all branches, with what each finished and shows
 --     isWellFormedOf  no branch spoils the record
 -- Place k is branch k + 1.
--- Own rules of 01 used here: none. Decisions: B4, T4, A4. Left out: nothing.
+-- Own rules of 01 used here: none. Decisions: B4, B6, T4, A4. Left out: nothing.
 -- Assumes nothing.
 use Prim.Native.Nat.{ℕ, _%_}
 use mathlib.Core.Path.{_≡_}
@@ -51,7 +51,7 @@ everyBranch test r = every (length (r .branches)) (λ k. test k (branchAt (r .br
 unfoldable pub isEmptyOf : Readout → Bool
 isEmptyOf r = everyBranch (λ k b. not (branch.hasWord b)) r
 
--- [Main.13] 8, or 1 by CSR bit 9, or by bit 10 for branch 4
+-- [Main.13] DECISIONS B6: 8, or 1 by CSR bit 9, or by bit 10 for branch 4 of a module, every fourth of a longer list
 abbrev pub depthOf : (lock lock4 : Bool) (k : ℕ) → ℕ
 depthOf lock lock4 k = if (eqb (k % moduleBranches) 3 && lock4) || lock then 1 else branch.queueDepth
 

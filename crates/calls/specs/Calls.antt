@@ -3,7 +3,7 @@
 --     document 01       "When a call is declined"
 --     writeRegisterOf, readRegisterOf, writeMemoryOf, readMemoryOf, tickOf   the answer and the next record
 --     memoryAfterOf     the memory after a memory write; every other call leaves it
--- Own rules of 01 used here: none. Decisions: A1, A3, T3. Left out: fresh, which is never declined ([Declines.6]), in supervisor.
+-- Own rules of 01 used here: none. Decisions: A1, A3, T3, K4. Left out: fresh, which is never declined ([Declines.6]), in supervisor.
 -- Assumes nothing.
 use Prim.Native.Nat.{ℕ, _^_}
 use mathlib.Core.Bool.{Bool, not, _&&_, _||_}

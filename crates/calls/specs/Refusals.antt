@@ -11,7 +11,8 @@ use Rattle.calls.specs.Answers.{Reply, declined}
 use Rattle.calls.specs.Calls.{writeError, readError, markedOf}
 use Rattle.calls.specs.Runs.{Ask, writeRegister, readRegister, writeMemory, readMemory, tick}
 
--- [Declines.2c] [Declines.4d] the status bit of a refusal with 4: 19 for a write, 20 for a read
+-- [Declines.2c] [Declines.4d] the status bit of a refusal with 4: 19 for a write, 20 for a read; a register read and a tick
+-- are never refused with 4, so theirs is never set
 abbrev pub statusBit : Ask → ℕ
 statusBit (writeRegister number v) = writeError
 statusBit (readRegister number) = readError

@@ -1,6 +1,6 @@
 // The public calls (document 01, "When a call is declined"). Each takes the record by value, refuses bad input by itself,
-// and hands back the next record with its answer. No call has a `requires`; each contract is one equality with a
-// definition of specs/Calls.antt, for every record and every memory.
+// and hands back the next record with its answer. No call has a `requires`; each contract is an equality with a
+// definition of specs/Calls.antt, for every record and every memory; `write_memory` has one more, for the memory.
 ghost use mathlib.Core.Path.{_≡_};
 ghost use Rattle.calls.specs.Calls.{markedOf, refuse, refuseRead, refuseTick, writeRegisterOf, readRegisterOf};
 ghost use Rattle.calls.specs.Calls.{writeMemoryOf, memoryAfterOf, readMemoryOf, tickOf};

@@ -12,7 +12,7 @@ use Rattle.claims.specs.Parts.{CsrBitAfterWrite, ClearWins, PulseHasOneF
 use Rattle.claims.specs.Parts.{FirstPulseIsScaled, FailBeatsPass2, FailBeatsPass3, ToIdleZeroes, IntervalOneIsDue}
 use Rattle.claims.specs.Parts.{SyncLoadKeepsCount, UserSyncEndsExactly, BranchKeepsOrder, StrobeHasWord}
 use Rattle.claims.specs.Parts.{NoneEnabledIsHigh, NoneEnabledIsLow, IntervalFitsItsWidth, ControlFitsItsBits}
-use Rattle.claims.specs.Parts.{Over19IsAbsent, ResetClearsTheRun, MarksSetStatusBits, SyncHoldEndsARun}
+use Rattle.claims.specs.Parts.{Over19IsAbsent, ResetClearsBits0To3, MarksSetStatusBits, SyncHoldEndsARun}
 use Rattle.claims.specs.Parts.{UserSyncEndsARun, FirstPulseIsScaledAfterReset, ZeroIsPassed, Inputs9To12Pass}
 
 pub factor-fits-its-width : FactorFitsItsWidth
@@ -42,8 +42,8 @@ csr-bit-after-write = csr.written-at
 pub clear-wins : ClearWins
 clear-wins = csr.clear-wins
 
-pub reset-clears-the-run : ResetClearsTheRun
-reset-clears-the-run = csr.reset-clears
+pub reset-clears-bits-0-to-3 : ResetClearsBits0To3
+reset-clears-bits-0-to-3 = csr.reset-clears
 
 pub marks-set-status-bits : MarksSetStatusBits
 marks-set-status-bits = csr.marked-at

@@ -1,8 +1,8 @@
 -- What is claimed of the trigger supervisor: every demand, and every promise beyond the demands, as one line under a
 -- paragraph in document 01's terms. proofs/Proved.antt proves each by citing its theorem.
 --
--- The contracts of the public calls are proved in the crate `calls`; each is an equality with the definition named here, for
--- every record, every memory of any length and every argument, and none has a `requires`:
+-- The contracts of the public calls are proved in `calls` and, for fresh, in `supervisor`; each is an equality with the
+-- definition named here, for every record, every memory of any length and every argument, and none has a `requires`:
 --     Supervisor::fresh      supervisor/specs/Supervisor, freshOf at moduleBranches, which is four
 --     write_register         calls/specs/Calls, writeRegisterOf
 --     read_register          calls/specs/Calls, readRegisterOf
@@ -36,34 +36,36 @@ use Rattle.script.specs.declared.reader.Command.{Command}
 
 -- ---- demand 1, beside the contracts
 
--- A refusal leaves the record as it is; only a refusal with 4 sets a status bit: 19 for a write, 20 for a read.
+-- [Declines.1b] A refusal leaves the record as it is; only a refusal with 4 sets a status bit: 19 for a write, 20 for a
+-- read.
 abbrev pub RefusalLeavesRecord : Type 0
 RefusalLeavesRecord =
     (a : Ask) (memory : List ℕ) (s : Supervisor)
     → Leaves (statusBit a) s (askOf a memory s .reply) (askOf a memory s .next)
 
--- A refusal leaves the lent memory as it is.
+-- [Declines.1b] A refusal leaves the lent memory as it is.
 abbrev pub RefusalLeavesMemory : Type 0
 RefusalLeavesMemory =
     (a : Ask) (memory : List ℕ) (s : Supervisor) (n : ℕ) → askOf a memory s .reply ≡ declined n → memoryAfter a memory s ≡ memory
 
--- A spoiled record refuses every call with 1, before all else.
+-- [Declines.2a] [Declines.3a] [Declines.4a] [Declines.5a] A spoiled record refuses every call with 1, before all else.
 abbrev pub SpoiledRecordRefuses : Type 0
 SpoiledRecordRefuses =
     (a : Ask) (memory : List ℕ) (s : Supervisor) → isSpoiledOf s ≡ true → askOf a memory s .reply ≡ declined 1
 
 -- ---- demand 3
 
--- After every list of calls from a fresh supervisor, refused ones among them, whatever memory is lent, record and account
--- balance: the words of each branch in order and at most eight held, the masks of each input, the events, n div (F + 1).
+-- [Account.1] After every list of calls from a fresh supervisor, refused ones among them, whatever memory is lent,
+-- record and account balance: the words of each branch in order and at most eight held, the masks of each input, the
+-- events, n div (F + 1).
 abbrev pub EveryRunBalances : Type 0
 EveryRunBalances = Demand3 moduleBranches
 
--- The same for a supervisor of any number of branches.
+-- [Account.1] The same for a supervisor of any number of branches.
 abbrev pub EveryRunBalancesAtAnySize : Type 0
 EveryRunBalancesAtAnySize = (branches : ℕ) → Demand3 branches
 
--- Any two branches of the module have finished and hold the same words, in the same order.
+-- [Account.16] Any two branches of the module have finished and hold the same words, in the same order.
 abbrev pub AnyTwoBranchesAgree : Type 0
 AnyTwoBranchesAgree =
     (calls : List Call) (j k : ℕ) → j < moduleBranches → k < moduleBranches
@@ -71,25 +73,25 @@ AnyTwoBranchesAgree =
 
 -- ---- the console
 
--- A last line that lacks its newline is read as if it had it.
+-- [Console.3] A last line that lacks its newline is read as if it had it.
 abbrev pub LastNewlineMayLack : Type 0
 LastNewlineMayLack =
     (b : ℕ) (bs : List ℕ) → eqb b newline ≡ false → linesOf (bs ++ (b ∷ [])) ≡ linesOf (bs ++ (b ∷ newline ∷ []))
 
--- What lines print does not depend on the lines after them.
+-- [Console.5] What lines print does not depend on the lines after them.
 abbrev pub AnswersDoNotLookAhead : Type 0
 AnswersDoNotLookAhead =
     (ls ms : List (List ℕ)) (z : Session) → answersFrom (ls ++ ms) z ≡ answersFrom ls z ++ answersFrom ms (sessionAt ls z)
 
--- Nor does where a line that is ended ends depend on the bytes after it.
+-- [Console.4] Nor does where a line that is ended ends depend on the bytes after it.
 abbrev pub LinesDoNotLookAhead : Type 0
 LinesDoNotLookAhead = (a b : List ℕ) → linesOf (a ++ (newline ∷ b)) ≡ linesOf (a ++ (newline ∷ [])) ++ linesOf b
 
--- Every answer is one line, of bytes that document 01 allows in an answer.
+-- [Console.8] Every answer is one line, of bytes that document 01 allows in an answer.
 abbrev pub EveryAnswerIsOneLine : Type 0
 EveryAnswerIsOneLine = (c : Command) (z : Session) → OneLine (lineAnswer c z)
 
--- There are as many answers as lines after the first.
+-- [Console.5] There are as many answers as lines after the first.
 abbrev pub OneAnswerEachLine : Type 0
 OneAnswerEachLine = (ls : List (List ℕ)) (z : Session) → newlines (answersFrom ls z) ≡ length ls
 
@@ -103,6 +105,6 @@ NoRunIsSpoiled = NeverSpoiled moduleBranches
 abbrev pub EveryCallKeepsUnspoiled : Type 0
 EveryCallKeepsUnspoiled = (c : Call) (s : Supervisor) → OfType s → isSpoiledOf s ≡ false → KeepsUnspoiled c s
 
--- The bench examples P1–P9, as one statement over their table.
+-- [Bench.1]–[Bench.9] The bench examples P1–P9, as one statement over their table.
 abbrev pub BenchExamples : Type 0
 BenchExamples = allRight examples ≡ true

@@ -37,54 +37,55 @@ use Rattle.branch.specs.declared.Slot.{Slot}
 
 -- ---- registers
 
--- A factor is valid exactly where it has no bit outside its width, 20 or 14 by its input; a timer by its own width.
+-- [Widths.1] [Widths.2] A factor is valid exactly where it has no bit outside its width, 20 or 14 by its input; a timer
+-- by its own width.
 abbrev pub FactorFitsItsWidth : Type 0
 FactorFitsItsWidth = (input v : ℕ) → (isValidFactor input v ≡ true) ↔ NoBitOutside (factorWidth input) v
 
 abbrev pub TimerFitsItsWidth : Type 0
 TimerFitsItsWidth = (timer v : ℕ) → (isValidTimer timer v ≡ true) ↔ NoBitOutside (timerWidth timer) v
 
--- The interval by its width, control by its bits.
+-- [Registers.1] [Control.1] The interval by its width, control by its bits.
 abbrev pub IntervalFitsItsWidth : Type 0
 IntervalFitsItsWidth = (v : ℕ) → (isValidInterval v ≡ true) ↔ NoBitOutside intervalWidth v
 
 abbrev pub ControlFitsItsBits : Type 0
 ControlFitsItsBits = (v : ℕ) → (isValidControl v ≡ true) ↔ NoBitOutsideOf controlBits v
 
--- A number over 19 names no register.
+-- [Declines.2b] A number over 19 names no register.
 abbrev pub Over19IsAbsent : Type 0
 Over19IsAbsent = (n : ℕ) → 19 < n → numberedOf n ≡ Absent
 
--- The assign codes 40h–4Fh, and those from 60h, name nothing.
+-- [Assign.1] The assign codes 40h–4Fh, and those from 60h, name nothing.
 abbrev pub AssignDeclines40To4F : Type 0
 AssignDeclines40To4F = (v : ℕ) → 64 ≤ v → v < 80 → isValidAssign v ≡ false
 
 abbrev pub AssignDeclines60Up : Type 0
 AssignDeclines60Up = (v : ℕ) → 96 ≤ v → isValidAssign v ≡ false
 
--- Every bit of the CSR after a write, by what the write asks.
+-- [CSRWrite.1] [CSRWrite.2a] [CSRWrite.2b] [CSRWrite.2c] Every bit of the CSR after a write, by what the write asks.
 abbrev pub CsrBitAfterWrite : Type 0
 CsrBitAfterWrite = (v : ℕ) (c : Csr) (i : ℕ) → csr.hasBit (csr.writtenOf v c .next) i ≡ bitAfter (csr.requestedOf v) v c i
 
--- Where a write both sets and clears a bit, it clears it.
+-- [CSRWrite.2a] Where a write both sets and clears a bit, it clears it.
 abbrev pub ClearWins : Type 0
 ClearWins = (v : ℕ) (c : Csr) (i : ℕ) → i < 12 → bitAt v (16 + i) ≡ true → csr.hasBit (csr.setThenClearedOf v c) i ≡ false
 
--- RESET clears bits 0–3.
-abbrev pub ResetClearsTheRun : Type 0
-ResetClearsTheRun = (v : ℕ) (c : Csr) (i : ℕ) → i < 4 → csr.hasBit (csr.afterRequestOf Reset v c) i ≡ false
+-- [CSRWrite.2d] RESET clears bits 0–3.
+abbrev pub ResetClearsBits0To3 : Type 0
+ResetClearsBits0To3 = (v : ℕ) (c : Csr) (i : ℕ) → i < 4 → csr.hasBit (csr.afterRequestOf Reset v c) i ≡ false
 
--- A tick or a declined call sets status bits alone.
+-- [CSR.2] What a tick or a declined call marks in the CSR is status bits alone.
 abbrev pub MarksSetStatusBits : Type 0
 MarksSetStatusBits =
     (marks : ℕ) (c : Csr) (i : ℕ) → csr.hasBit (csr.markedOf marks c) i ≡ (csr.hasBit c i || (bitAt marks i && isStatusBit i))
 
--- The end of Sync hold clears bits 0 and 1, if bit 1 was set, and no other bit.
+-- [Main.14] The end of Sync hold clears bits 0 and 1, if bit 1 was set, and no other bit.
 abbrev pub SyncHoldEndsARun : Type 0
 SyncHoldEndsARun =
     (c : Csr) (i : ℕ) → csr.hasBit (csr.syncHoldEndedOf c) i ≡ (csr.hasBit c i && not (csr.pausesOnNextSync c && ltb i 2))
 
--- The end of a user sync clears bits 2 and 3, and bit 0 if bit 2 was set, and no other bit.
+-- [Usersync.2] The end of a user sync clears bits 2 and 3, and bit 0 if bit 2 was set, and no other bit.
 abbrev pub UserSyncEndsARun : Type 0
 UserSyncEndsARun =
     (c : Csr) (i : ℕ)
@@ -93,7 +94,7 @@ UserSyncEndsARun =
 
 -- ---- prescalers
 
--- Each counted pulse is stopped, scaled or passed, and only one of them.
+-- [Account.11] Each counted pulse is stopped, scaled or passed, and only one of them.
 abbrev pub PulseHasOneFate : Type 0
 PulseHasOneFate =
     (runs : Bool) (pulses : ℕ) (b : Prescalers) (i : ℕ) → i < inputs
@@ -102,7 +103,8 @@ PulseHasOneFate =
     + oneIfOf (bitAt (prescaler.stepOf runs pulses b .scaled) i)
     + oneIfOf (bitAt (prescaler.stepOf runs pulses b .passed) i)
 
--- With n pulses since the load and p of them passed: n + counter = p × (F + 1) + F and counter ≤ F, so p = n div (F + 1).
+-- [Account.17] With n pulses since the load and p of them passed: n + counter = p × (F + 1) + F and counter ≤ F, so p =
+-- n div (F + 1).
 abbrev pub PulseKeepsPassCount : Type 0
 PulseKeepsPassCount =
     (counted runs : Bool) (n p counter factor : ℕ) → prescaler.PassCount n p counter factor
@@ -113,20 +115,20 @@ PulseKeepsPassCount =
 abbrev pub PassCountDivides : Type 0
 PassCountDivides = (n p counter factor : ℕ) → prescaler.PassCount n p counter factor → p ≡ n / (factor + 1)
 
--- After a load with a factor above 0 the first pulse does not pass.
+-- [Bench.10] After a load with a factor above 0 the first pulse does not pass.
 abbrev pub FirstPulseIsScaled : Type 0
 FirstPulseIsScaled =
     (pulses i : ℕ) → i < prescaler.prescaledInputs → bitAt pulses i ≡ true → (input factor : ℕ) (b : Prescalers)
     → i + 1 ≡ input → EightPlaces b → 0 < factor
     → ScaledAt (prescaler.stepOf true pulses (prescaler.withFactorOf input factor b)) i
 
--- The same after RESET, which loads every counter.
+-- [CSRWrite.2d] The same after RESET, which loads every counter.
 abbrev pub FirstPulseIsScaledAfterReset : Type 0
 FirstPulseIsScaledAfterReset =
     (pulses i : ℕ) → i < prescaler.prescaledInputs → bitAt pulses i ≡ true → (b : Prescalers) → 0 < factorAt b i
     → ScaledAt (prescaler.stepOf true pulses (prescaler.reloadedOf b)) i
 
--- A counted pulse that meets 0 passes where the bank runs; so does every one of inputs 9–12.
+-- [Pulses.4] [Pulses.5] A counted pulse that meets 0 passes where the bank runs; so does every one of inputs 9–12.
 abbrev pub ZeroIsPassed : Type 0
 ZeroIsPassed =
     (pulses : ℕ) (b : Prescalers) (i : ℕ) → bitAt pulses i ≡ true → i < prescaler.prescaledInputs → counterAt b i ≡ 0
@@ -139,14 +141,14 @@ Inputs9To12Pass =
 
 -- ---- main sequencer
 
--- Fail is acted on before pass, in Wait 2 and in Wait 3.
+-- [Main.3] Fail is acted on before pass, in Wait 2 and in Wait 3.
 abbrev pub FailBeatsPass2 : Type 0
 FailBeatsPass2 = (late pass class2 : Bool) → main.moveInWait2 true late pass class2 ≡ main.moveInWait2 true late false false
 
 abbrev pub FailBeatsPass3 : Type 0
 FailBeatsPass3 = (late pass : Bool) → main.moveInWait3 true late pass ≡ main.moveInWait3 true late false
 
--- The move to Idle leaves the sequencer as it is at Idle: nothing of the event stays.
+-- [Main.17] The move to Idle leaves the sequencer as it is at Idle: nothing of the event stays.
 abbrev pub ToIdleZeroes : Type 0
 ToIdleZeroes =
     (t : Tests) (m : MainSequencer) → isIdle (m .state) ≡ false → isIdle (main.stepOf t m .next .state) ≡ true
@@ -154,21 +156,21 @@ ToIdleZeroes =
 
 -- ---- syncs
 
--- With an interval of 1 every event is a sync event; the load of one counts no further.
+-- [Bench.7] With an interval of 1 every event is a sync event; the load of one counts no further.
 abbrev pub IntervalOneIsDue : Type 0
 IntervalOneIsDue = (count : ℕ) → isDue true (record { interval = 1; count = count }) ≡ true
 
 abbrev pub SyncLoadKeepsCount : Type 0
 SyncLoadKeepsCount = (enabled : Bool) (c : SyncCounter) → isDue enabled c ≡ true → afterLoadOf enabled c ≡ c
 
--- A user sync's wait ends exactly where every branch is empty.
+-- [Usersync.2] A user sync's wait ends exactly where every branch is empty.
 abbrev pub UserSyncEndsExactly : Type 0
 UserSyncEndsExactly =
     (wanted idle empty : Bool) (u : UserSync) → user.stepOf wanted idle empty u .ended ≡ (u .waiting && empty)
 
 -- ---- branches
 
--- What finished, followed by what is held, is what was held followed by what was loaded.
+-- [Account.15] What finished, followed by what is held, is what was held followed by what was loaded.
 abbrev pub BranchKeepsOrder : Type 0
 BranchKeepsOrder =
     (acks enabled : ℕ) (b : Branch) (load : Slot) → branch.isSixBitLoad load ≡ true → branch.hasRoomFor load b ≡ true
@@ -176,11 +178,11 @@ BranchKeepsOrder =
     → wordsIn (branch.stepOf acks enabled load b .finished) ++ branch.held (branch.stepOf acks enabled load b .next)
     ≡ branch.held b ++ wordsIn load
 
--- At Strobe there is a word.
+-- [Spoiled.1d] At Strobe there is a word.
 abbrev pub StrobeHasWord : Type 0
 StrobeHasWord = (b : Branch) → branch.WellFormedBranch b → b .phase ≡ Strobe → 0 < length (branch.held b)
 
--- With no line enabled, all enabled lines are high, and all are low.
+-- [Branches.4] With no line enabled, all enabled lines are high, and all are low.
 abbrev pub NoneEnabledIsHigh : Type 0
 NoneEnabledIsHigh = (acks : ℕ) → branch.allHigh acks 0 ≡ true
 

@@ -7,6 +7,7 @@
 --     main-has-no-tag, main-loads-below-eight, main-at-idle-loads-nothing, main-loads-six-bits
 --     tag-waits-not, tag-is-wanted, tag-is-at-idle   where the user sync loads a tag
 --     sound-waits-at-idle                      main is not in a cycle while a user sync waits
+--     isLoad                                   an event or a tag
 --     tag-, event-loads-below-eight            a word is loaded only where no queue may hold eight
 -- Assumes nothing.
 use Prim.Native.Nat.{ℕ, _+_, _<_}

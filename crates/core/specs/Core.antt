@@ -120,7 +120,7 @@ latchOf ready ok passed =
 
 -- ---- main and user sync
 
--- [Main.6]–[Main.15] the tests of main, at the risen age
+-- [Main.6] [Main.7] [Main.8] [Main.10] [Main.13] [Main.14] [Main.15] the tests of main, at the risen age
 unfoldable pub testsOf : (room empty : Bool) (age : ℕ) → Lines → Core → Tests
 testsOf room empty age l c =
     record {

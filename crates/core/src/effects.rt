@@ -58,7 +58,9 @@ pub fn latched_pulses(ready: bool, word: u16, passed: u32) -> Latch
 fn status(inhibit: bool, late: bool, sync: bool) -> u32
     ensures { λ r. ⌜ r ≡ statusOf inhibit late sync ⌝ }
 {
-    bits::one_if(inhibit) * 65536 + bits::one_if(late) * 131072 + bits::one_if(sync) * 262144
+    bits::one_if(inhibit) * Csr::INHIBIT
+        + bits::one_if(late) * Csr::LATE_FAIL
+        + bits::one_if(sync) * Csr::SYNC
 }
 
 pub fn csr_after(csr: Csr, lines: Lines, m: MainStep, u: UserStep) -> Csr

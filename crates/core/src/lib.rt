@@ -129,7 +129,7 @@ impl Core {
             & (!csr.wants_user_sync() & (!user.waiting & (!lines.has_front_busy() & uninhibited)))
     }
 
-    // [Main.6]–[Main.15] the tests of main, at the risen age
+    // [Main.6] [Main.7] [Main.8] [Main.10] [Main.13] [Main.14] [Main.15] the tests of main, at the risen age
     fn tests(self, lines: Lines, age: u32, room: bool, empty: bool) -> Tests
         ensures { λ r. ⌜ r ≡ testsOf room empty age lines self ⌝ }
     {

@@ -1,4 +1,5 @@
 -- The code's choices are the step of document 01: a bank that it does not look at, and eight prescalers put together.
+--     allStopped, allPassed, pulsed   what the code builds in each case
 --     stopped-by-choices    a bank that does not run stays, and every pulse is stopped, for `step`
 --     passed-by-choices     with no pulse on inputs 1–8 a bank that runs stays, and every pulse passes, for `step`
 --     gathered-by-choices   what `gathered` makes of eight pulses is the step of a bank that runs, for `counted_down`

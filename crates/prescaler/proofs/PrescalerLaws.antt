@@ -1,4 +1,5 @@
 -- Laws of the prescalers: what becomes of each counted pulse, how many pass, and what a step keeps.
+--     StandsAt, factAt                   the counter and the factor of an input; a fact of each input's fate
 --     stopped-at, scaled-at, passed-at   bit i of each mask says what became of the pulse of input i + 1
 --     fate-is-one                        each counted pulse is in exactly one of the three masks
 --     unstopped-is-running, passed-is-rest   the masks, as the account reads them

@@ -156,7 +156,7 @@ pub record ScaledAt (r : Prescaled) (i : ℕ) : Type 0 where
   pub scaled : bitAt (r .scaled) i ≡ true
   pub passed : bitAt (r .passed) i ≡ false
 
--- [Account.17] of n counted pulses not stopped since the load, p have passed;
+-- [Account.17] of n counted pulses not stopped since the factor was written, p have passed;
 -- the prescaler stands at the counter
 pub record PassCount (n p counter factor : ℕ) : Type 0 where
   -- needed where the counter is loaded

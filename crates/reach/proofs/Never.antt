@@ -1,4 +1,5 @@
 -- No run reaches a spoiled record: every call keeps a record that is not spoiled so, and the fresh one is none.
+--     UnspoiledOfType        what every call keeps: not spoiled, and of the code's types
 --     call-keeps-unspoiled   every call, on every record of the code's types that is not spoiled, reachable or not
 --     run-keeps-unspoiled    every list of calls
 --     never-spoiled          from a fresh supervisor of any number of branches
@@ -22,13 +23,13 @@ use Rattle.reach.proofs.WriteSound.{fresh-is-of-type, fresh-is-unspoile
 use Rattle.reach.proofs.WriteSound.{write-keeps-type, write-keeps-unspoiled}
 
 -- what every call keeps
-pub record Fine (s : Supervisor) : Type 0 where
+pub record UnspoiledOfType (s : Supervisor) : Type 0 where
   pub ofType : OfType s
   pub unspoiled : Unspoiled s
 
 -- ---- one call, by how it ends
 
-marked-keeps-fine : (status : ℕ) (s : Supervisor) → Fine s → Fine (markedOf status s)
+marked-keeps-fine : (status : ℕ) (s : Supervisor) → UnspoiledOfType s → UnspoiledOfType (markedOf status s)
 unfolding markedOf
 marked-keeps-fine status s fine =
     record {
@@ -36,8 +37,8 @@ marked-keeps-fine status s fine =
       unspoiled = marked-keeps-unspoiled s (fine .unspoiled) status;
     }
 
-end-keeps-fine : {memory : List ℕ} {s : Supervisor} {a : Ask} {reply : Reply} {next : Supervisor} → Fine s
-    → End memory s a reply next → Fine next
+end-keeps-fine : {memory : List ℕ} {s : Supervisor} {a : Ask} {reply : Reply} {next : Supervisor} → UnspoiledOfType s
+    → End memory s a reply next → UnspoiledOfType next
 end-keeps-fine fine (refused a n h) = fine
 end-keeps-fine {s = s} fine (refusedActive a) = marked-keeps-fine (statusBit a) s fine
 end-keeps-fine {s = s} fine (wrote number v valid) =
@@ -53,7 +54,7 @@ end-keeps-fine {memory = memory} {s = s} fine (ran x clean) =
       unspoiled = tick-keeps-unspoiled memory x s (fine .ofType) (fine .unspoiled);
     }
 
-call-keeps-fine : (c : Call) (s : Supervisor) → Fine s → Fine (callOf c s .next)
+call-keeps-fine : (c : Call) (s : Supervisor) → UnspoiledOfType s → UnspoiledOfType (callOf c s .next)
 call-keeps-fine c s fine = end-keeps-fine fine (call-ends (c .memory) s (c .ask))
 
 -- ---- the promises
@@ -63,7 +64,7 @@ call-keeps-unspoiled c s ofType clean =
     let fine = call-keeps-fine c s (record { ofType = ofType; unspoiled = unspoiled-from-test s clean }) in
     record { ofType = fine .ofType; unspoiled = unspoiled-to-test (callOf c s .next) (fine .unspoiled) }
 
-run-keeps-unspoiled : (calls : List Call) (s : Supervisor) → Fine s → Fine (recordAfter calls s)
+run-keeps-unspoiled : (calls : List Call) (s : Supervisor) → UnspoiledOfType s → UnspoiledOfType (recordAfter calls s)
 run-keeps-unspoiled [] s fine = fine
 run-keeps-unspoiled (c ∷ cs) s fine =
     run-keeps-unspoiled cs (callOf c s .next) (call-keeps-fine c s fine)
@@ -71,6 +72,6 @@ run-keeps-unspoiled (c ∷ cs) s fine =
 pub never-spoiled : (branches : ℕ) → NeverSpoiled branches
 unfolding NeverSpoiled
 never-spoiled branches calls =
-    let fresh : Fine (freshOf branches) = record { ofType = fresh-is-of-type branches; unspoiled = fresh-is-unspoiled branches } in
+    let fresh : UnspoiledOfType (freshOf branches) = record { ofType = fresh-is-of-type branches; unspoiled = fresh-is-unspoiled branches } in
     unspoiled-to-test (recordAfter calls (freshOf branches))
     (run-keeps-unspoiled calls (freshOf branches) fresh .unspoiled)

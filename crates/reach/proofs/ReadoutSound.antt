@@ -1,6 +1,6 @@
--- A tick keeps the clauses of the spoiled rule on the branches: eight words only where main or a user sync waits for them.
---     tick-keeps-readout       every branch after a tick
---     emptied-is-sound, fresh-is-sound   after RESET and at power-up
+-- One branch after a tick: what of the spoiled rule it keeps.
+--     adds-none            without a load a branch holds no more words than before
+--     branch-stays-sound   its clauses after a tick, by the outcome
 -- Assumes nothing.
 use Prim.Native.Nat.{ℕ, _+_, _<_, _≤_}
 use mathlib.Core.Path.{_≡_, refl, sym, ap, _∙_}

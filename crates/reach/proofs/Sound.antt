@@ -2,6 +2,7 @@
 -- leaves a group alone hands it on.
 --     SoundCore           the clauses on the core
 --     SoundReadout        the clauses on the branches
+--     SoundBranch         those on one branch
 --     Unspoiled           both
 --     unspoiled-from-test, unspoiled-to-test   the spoiled rule and the facts say the same
 -- Assumes nothing.

@@ -1,6 +1,7 @@
 -- A tick keeps a record that is not spoiled so.
 --     load-allows-eight      after a load a queue may hold eight words
---     leaves-with-room       where eight words are no longer allowed, every branch has room for one
+--     leaves-by-test         where eight words are no longer allowed, the branches passed the test
+--     tick-keeps-type        arrays of eight, an interval of 16 bits
 --     tick-keeps-unspoiled   a tick that is carried out
 -- Assumes nothing.
 use Prim.Native.Nat.{ℕ, _^_, _<_}

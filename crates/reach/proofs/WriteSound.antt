@@ -2,6 +2,7 @@
 --     fresh-is-unspoiled     the fresh record, of any number of branches
 --     marked-keeps-unspoiled a status bit set by a decline
 --     write-keeps-unspoiled  a write of a value that its register takes
+--     fresh-is-of-type, write-keeps-type   what the code's types say
 -- Assumes nothing.
 use Prim.Native.Nat.{ℕ, suc, _+_, _-_, _%_, _^_, _<_}
 use mathlib.Core.Path.{_≡_, refl, sym, ap, _∙_}

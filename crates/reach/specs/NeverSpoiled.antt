@@ -1,7 +1,7 @@
 -- Beyond the demands: no list of calls reaches a spoiled record, and every call leaves a record that is not spoiled so.
 --
--- Demand 3 alone would let a machine pass that overfills a queue and then declines every call for ever: its account
--- balances. Such a machine reaches a spoiled record, and this statement refuses it.
+-- Demand 3 alone would let a machine pass that goes to Idle with eight words held and then declines every call for ever:
+-- its account balances. Such a machine reaches a spoiled record, and this statement refuses it.
 --     document 01      "When a call is declined", Spoiled
 --     OfType           what the code's types say of every record: a list alone does not say it
 --     KeepsUnspoiled   every call, on every such record that is not spoiled, reachable or not

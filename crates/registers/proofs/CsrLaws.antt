@@ -3,6 +3,7 @@
 --     go-rises-exactly        a write raises GO exactly when GO was 0, bit 0 is set and bit 16 is not
 --     clear-wins              a bit that the write sets and clears is 0 after it
 --     reset-clears            after RESET bits 0–3 are 0
+--     fresh-is-valid          the fresh CSR has no bit
 --     ..-keeps-valid          a CSR with no bit other than 0–11 and 16–20 has none after the operation either
 -- Assumes nothing.
 use Prim.Native.Nat.{ℕ, _+_, _/_, _^_, _<_}

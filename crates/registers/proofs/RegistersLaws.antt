@@ -3,6 +3,7 @@
 --     control-fits-iff-no-bit-outside    the mask law of bits, for control
 --     assign-declines-40-to-4F, assign-declines-60-up     the codes that 01 does not list
 --     over-19-is-absent                  a number over 19 names no register
+--     Between, InRange                   what is said of a register that a number names
 --     numbered-is-in-range               a number names factor 1–8, timer 1–5, scaler 0 or 1, or another one
 -- Assumes nothing.
 use Prim.Native.Nat.{ℕ, _<_, _≤_}

@@ -1,5 +1,6 @@
 -- The answers fit: five bytes for each byte of script.
 --     hex-length        as many digits as are asked for
+--     roomOf            the most that the answer to a command takes
 --     answer-room       no answer is longer than the room of its command
 --     command-room      a line has at least a fifth of its command's room, or is empty and has room for `no 6`
 --     answer-fits       both together

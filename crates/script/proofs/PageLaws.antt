@@ -1,6 +1,7 @@
 -- Laws of the page: how texts written one after the other are one text.
 --     write-append     a text and then another are the one followed by the other
 --     write-4, write-5 .. for four and five texts
+--     write-none, write-hex   no text, and the digits of a word one by one
 --     tick-by-parts    the parts of a tick's answer are its fields
 --     power-of-digits  the code's shift by 4 bits a digit is a division by 16 a digit
 -- Assumes nothing.

@@ -1,6 +1,6 @@
 -- Laws of the reader: what its loops go by.
 --     every-fails        a test that fails at one index fails for all of them
---     length-after, length-at, length-none   the length of a line, byte by byte
+--     length-after, length-at, length-none, length-at-most   the length of a line, byte by byte; within the script
 --     lines-first        the lines of a script that is not empty: its first line, and those after its newline
 --     same-lengths, same-after, same-fails, same-ends   the test of the first line, byte by byte
 -- Assumes nothing.

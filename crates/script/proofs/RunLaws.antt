@@ -1,4 +1,5 @@
 -- The laws of the loop over the lines: a turn prints the answer of one line, and there is always room for it.
+--     lenAt, commandAt  the length of the line at a place, and what it asks
 --     written-at, written-text, written-length   what writing a text that fits does to a page
 --     turn-keeps-room, turn-keeps-answers   what the loop's invariant says is kept by a turn
 --     answers-none      at the end of the script nothing is left to answer

@@ -23,7 +23,7 @@ use core::lines::Inputs;
 use core::lines::Lines;
 use supervisor::Supervisor;
 
-// [Console.6] the number of a line of other form
+// [Console.5] [Console.6] the number of a line of other form, and of a script that is not run
 pub const MALFORMED: u8 = 6;
 
 // [Console.5] how many digits a register has, and a memory word

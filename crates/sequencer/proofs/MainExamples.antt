@@ -1,6 +1,8 @@
 -- Worked examples of the main sequencer, computed from the definitions.
 --     none-moves, all-move, passes-move, fails-move   where each state leads under given tests, a row for each state
 --     words          the word of an event, with and without sync and late
+--     ok-words, classes, accept-raises   which words are OK, their class, and what an accept raises
+--     class3-raises, clear-falls, age-stops, age-rises   one move each
 -- Assumes nothing.
 use Prim.Native.Nat.{ℕ}
 use mathlib.Core.Path.{_≡_, refl}

@@ -5,8 +5,8 @@
 --     moveOf         the sentence that acts, from the state and the tests of the tick
 --     stepBy         what each move changes and reports; stepOf: the whole step
 --     idleOf         the sequencer at Idle, where every move to Idle and RESET lead
--- Own rules of 01 used here: fail beats pass. Decisions: M1–M7, A5.
--- Left out: the word's way to the branches, in branches; the CSR bits that a step sets and clears, in supervisor.
+-- Own rules of 01 used here: fail beats pass. Decisions: M1–M7, A5, F4.
+-- Left out: the word's way to the branches, in branches; the CSR bits that a step sets and clears, in core.
 -- Assumes nothing.
 use Prim.Native.Nat.{ℕ, _+_, _-_, _*_, _%_, _^_, _≤_}
 use mathlib.Core.Path.{_≡_}
@@ -164,11 +164,12 @@ lateStep m = quiet (m ▷ withLate true ▷ withState Front) ▷ withLateMark tr
 abbrev pub clearedStep : (c : ℕ) → MainSequencer → MainStep
 clearedStep c m = quiet (m ▷ withClear c ▷ withState Clear) ▷ withOutcome Cleared
 
--- the two kinds of fail, before the level is named
+-- the two kinds of fail, before the level is named: for the code, which chooses the kind first; SequencerChoices proves that
+-- it is stepBy
 abbrev pub failStep : Tests → MainSequencer → MainStep
 failStep t m = if t .late then lateStep m else clearedStep (t .clear) m
 
--- [Main.4]–[Main.17] a line for each move
+-- [Main.4] [Main.5] [Main.6] [Main.7] [Main.8] [Main.12] [Main.13] [Main.14] [Main.15] [Main.17] a line for each move
 abbrev pub stepBy : Move → Tests → MainSequencer → MainStep
 stepBy stays t m = quiet m
 stepBy waitsInDelay t m = quiet (m ▷ raiseDue t)

@@ -4,7 +4,7 @@ ghost use mathlib.Core.Path.{_≡_};
 ghost use Rattle.bits.specs.Notation.{if_then_else_};
 ghost use Rattle.bits.specs.Bits.{setOf};
 ghost use Rattle.sequencer.specs.MainFields.{withState, withRaised};
-ghost use Rattle.sequencer.specs.MainSequencer.{wordOf, moveIn, lateStep, clearedStep, failStep, stepBy};
+ghost use Rattle.sequencer.specs.MainSequencer.{afterLoad, wordOf, moveIn, lateStep, clearedStep, failStep, stepBy};
 ghost use Rattle.sequencer.specs.declared.states.State.the-variants.{Delay, Wait2, Wait3};
 ghost use Rattle.sequencer.specs.declared.states.State.the-variants.{Front, Space, SyncHold, Clear};
 use super::main_sequencer::MainSequencer;
@@ -23,8 +23,9 @@ fn raised_if(raised: u8, t: bool, line: u8) -> u8
     raised
 }
 
-fn state_after_load(sync: bool) -> State
-    ensures { λ r. ⌜ r ≡ (if sync then SyncHold else Space) ⌝ }
+// [Main.12]
+fn after_load(sync: bool) -> State
+    ensures { λ r. ⌜ r ≡ afterLoad sync ⌝ }
 {
     if sync { State::SyncHold } else { State::Space }
 }
@@ -155,7 +156,7 @@ impl MainSequencer {
     {
         if t.front {
             let word = self.word(t.sync);
-            let next = self.with_state(state_after_load(t.sync));
+            let next = self.with_state(after_load(t.sync));
             return MainStep {
                 next,
                 outcome: Outcome::Event(word),

@@ -16,9 +16,9 @@ use core::lines::Inputs;
 use sequencer::states::Outcome;
 
 pub struct Supervisor {
-    // what each module of a group would have
+    // the branches and ROC enable
     pub readout: Readout,
-    // what a group would hold once
+    // all else
     pub core: Core,
 }
 

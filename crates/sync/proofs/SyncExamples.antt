@@ -2,6 +2,7 @@
 --     due-at-three     with interval 3 the third event is a sync event, not the second
 --     count-after      an event that is no sync event is counted; a sync event is not
 --     user-moves       a tag is loaded, waits, and its wait ends
+--     tag-then-waits   the tick that loads a tag starts the wait
 -- Assumes nothing.
 use Prim.Native.Nat.{ℕ}
 use mathlib.Core.Path.{_≡_, refl}

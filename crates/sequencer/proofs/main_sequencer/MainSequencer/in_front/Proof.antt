@@ -7,8 +7,8 @@ use Rattle.sequencer.proofs.main_sequencer.MainSequencer.in_front.Tie a
 word-requires : tie.Need-word-requires
 word-requires c κs = search needs
 
-state-after-load-requires : tie.Need-state-after-load-requires
-state-after-load-requires c κs = search needs
+after-load-requires : tie.Need-after-load-requires
+after-load-requires c κs = search needs
 
 with-state-requires : tie.Need-with-state-requires
 with-state-requires c κs = search needs
@@ -17,7 +17,7 @@ returns : tie.Need-returns
 returns c =
     rw (
       c .with-state .ensures,
-      c .before .state-after-load .ensures,
+      c .before .after-load .ensures,
       c .before .before .word .ensures,
       c .before .before .before .if1 .taken,
     )
@@ -33,7 +33,7 @@ in-front-spec =
     tie.close
     (tie.spec
     word-requires
-    state-after-load-requires
+    after-load-requires
     with-state-requires
     returns
     quiet-step-requires
