@@ -1,12 +1,12 @@
 //! Names the archives of the proved library to the linker, and writes the faulty copy of the model for `compare`.
 
-use std::path::PathBuf;
+use std::path::{Path, PathBuf};
 
 include!("src/bin/compare/fault_list.rs");
 
 fn main() {
     println!("cargo:rerun-if-changed=build.rs");
-    println!("cargo:rerun-if-changed=src/machine.rs");
+    println!("cargo:rerun-if-changed=src/machine");
     println!("cargo:rerun-if-changed=src/bin/compare/fault_list.rs");
     if std::env::var_os("CARGO_FEATURE_PROVED").is_none() {
         return;
@@ -19,16 +19,30 @@ fn main() {
         println!("cargo:rustc-link-arg-bin={bin}={}", archive.display());
     }
 
-    let source = std::fs::read_to_string(here.join("src/machine.rs")).expect("src/machine.rs");
+    let source = whole(&here.join("src/machine"), "mod");
     let copy = PathBuf::from(std::env::var_os("OUT_DIR").expect("cargo sets it")).join("faulty.rs");
     std::fs::write(copy, faulty(&source)).expect("OUT_DIR");
 }
 
+/// The text of one of the model's files, with the text of each of its child modules in the place of the line that
+/// names it.
+fn whole(folder: &Path, name: &str) -> String {
+    let file = folder.join(format!("{name}.rs"));
+    let source = std::fs::read_to_string(&file).unwrap_or_else(|error| panic!("{}: {error}", file.display()));
+    let mut text = String::new();
+    // Inner comments cannot stand in an included file.
+    for line in source.lines().filter(|line| !line.starts_with("//!")) {
+        match line.strip_prefix("mod ").and_then(|rest| rest.strip_suffix(';')) {
+            Some(child) => text += &format!("mod {child} {{\n{}}}\n", whole(folder, child)),
+            None => text += &format!("{line}\n"),
+        }
+    }
+    text
+}
+
 /// The model's source with every fault at its place, behind a test of the switch.
 fn faulty(source: &str) -> String {
-    // Inner comments cannot stand in an included file.
-    let mut text: String =
-        source.lines().filter(|line| !line.starts_with("//!")).map(|line| format!("{line}\n")).collect();
+    let mut text = source.to_string();
     let mut done: Vec<&str> = Vec::new();
     for fault in FAULTS {
         if done.contains(&fault.right) {

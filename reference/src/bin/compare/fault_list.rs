@@ -1,4 +1,4 @@
-// Wrong models: at one place of machine.rs each has another expression. `build.rs` makes the faulty copy from this list.
+// Wrong models: each has another expression at one place of src/machine. `build.rs` makes the faulty copy from this list.
 
 struct Fault {
     #[allow(dead_code)]

@@ -1,0 +1,131 @@
+//! Register write and read, and what a write to the CSR does.
+
+use super::{control, csr, decline, Branch, Count20, Count40, Supervisor};
+
+/// The bits that a write to each register takes. [Registers.1] [Widths.1] [Widths.2] [Control.1] [Declines.2d]
+const TAKEN_BITS: [u32; 20] = [
+    !csr::NOT_TAKEN,
+    control::BITS,
+    Supervisor::WIDE_FACTOR,
+    Supervisor::WIDE_FACTOR,
+    Supervisor::WIDE_FACTOR,
+    Supervisor::WIDE_FACTOR,
+    Supervisor::NARROW_FACTOR,
+    Supervisor::NARROW_FACTOR,
+    Supervisor::NARROW_FACTOR,
+    Supervisor::NARROW_FACTOR,
+    u32::MAX,
+    0xFFFF,
+    0xFFFF,
+    0xFFFF,
+    0xFFFF,
+    0xFFFF,
+    0xFF,
+    u32::MAX, // any value zeroes the scaler [Registers.3]
+    u32::MAX,
+    0x7F, // and of these only the listed codes
+];
+
+/// The assign codes that are listed. [Assign.1]
+#[inline]
+pub(super) const fn is_listed(assign: u32) -> bool {
+    matches!(assign, 0x00..=0x3F | 0x50..=0x5F)
+}
+
+/// Whether a write of this value to this register (0–19) escapes decline 5. [Declines.2d]
+const fn is_taken(number: u32, value: u32) -> bool {
+    value & !TAKEN_BITS[number as usize] == 0 && (number != Supervisor::ASSIGN || is_listed(value))
+}
+
+impl Supervisor {
+    /// Writes a register. Declines 1, 3, 4, 5 in this order. [Declines.2a]–[Declines.2d]
+    pub fn write_register(&mut self, number: u32, value: u32) -> Result<(), u8> {
+        if self.is_spoiled() {
+            return Err(decline::SPOILED);
+        }
+        if number > Self::ASSIGN {
+            return Err(decline::NUMBER);
+        }
+        if matches!(number, Self::CONTROL..=Self::T5) && self.is_active() {
+            self.csr |= csr::WRITE_ERROR;
+            return Err(decline::ACTIVE);
+        }
+        if !is_taken(number, value) {
+            return Err(decline::VALUE);
+        }
+        match number {
+            Self::CSR => self.write_csr(value),
+            Self::CONTROL => self.control = value,
+            Self::FACTOR_1..=Self::FACTOR_8 => {
+                let input = (number - Self::FACTOR_1) as usize;
+                self.factors[input] = value;
+                self.counters[input] = value; // [Registers.2]
+            }
+            Self::ROC_ENABLE => self.roc_enable = value,
+            Self::SYNC_INTERVAL => self.sync_interval = value,
+            Self::T1 => self.t1 = Count40(value),
+            Self::T2 => self.t2 = Count40(value),
+            Self::T3 => self.t3 = Count40(value),
+            Self::T4 => self.t4 = Count40(value),
+            Self::T5 => self.t5 = Count20(value),
+            Self::SCALER_0 => self.scalers[0] = 0, // [Registers.3]
+            Self::SCALER_1 => self.scalers[1] = 0,
+            _ => self.assign = value,
+        }
+        Ok(())
+    }
+
+    /// Reads a register's stored value. Declines 1, 3. [Declines.3a] [Declines.3b]
+    pub fn read_register(&mut self, number: u32) -> Result<u32, u8> {
+        if self.is_spoiled() {
+            return Err(decline::SPOILED);
+        }
+        Ok(match number {
+            Self::CSR => self.csr,
+            Self::CONTROL => self.control,
+            Self::FACTOR_1..=Self::FACTOR_8 => self.factors[(number - Self::FACTOR_1) as usize],
+            Self::ROC_ENABLE => self.roc_enable,
+            Self::SYNC_INTERVAL => self.sync_interval,
+            Self::T1 => self.t1.0,
+            Self::T2 => self.t2.0,
+            Self::T3 => self.t3.0,
+            Self::T4 => self.t4.0,
+            Self::T5 => self.t5.0,
+            Self::SCALER_0 => self.scalers[0],
+            Self::SCALER_1 => self.scalers[1],
+            Self::ASSIGN => self.assign,
+            _ => return Err(decline::NUMBER),
+        })
+    }
+
+    /// [CSRWrite.1]–[CSRWrite.3]
+    fn write_csr(&mut self, value: u32) {
+        if value & csr::INITIALIZE != 0 {
+            *self = Self::fresh();
+            return;
+        }
+        let before = self.csr;
+        let set = value & csr::CONTROLS;
+        let clear = (value >> csr::CLEAR_SHIFT) & csr::CONTROLS;
+        let mut after = (before | set) & !clear;
+        let go_rises = after & !before & csr::GO != 0;
+        if go_rises || value & csr::CLEAR_STATUS != 0 {
+            after &= !csr::STATUS;
+        }
+        self.csr = after;
+        if value & csr::RESET != 0 {
+            self.reset();
+        }
+    }
+
+    /// [CSRWrite.2d] [Main.17]; the user sync is one of the sequencers that go idle.
+    fn reset(&mut self) {
+        self.csr &= !csr::CLEARED_BY_RESET;
+        self.counters = self.factors;
+        self.scalers = [0; 2];
+        self.sync_count = 0;
+        self.user_sync_waiting = false;
+        self.branches = [Branch::fresh(), Branch::fresh(), Branch::fresh(), Branch::fresh()];
+        self.idle_main();
+    }
+}
