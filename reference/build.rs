@@ -7,7 +7,9 @@ include!("src/bin/compare/fault_list.rs");
 fn main() {
     println!("cargo:rerun-if-changed=build.rs");
     println!("cargo:rerun-if-changed=src/machine");
-    println!("cargo:rerun-if-changed=src/bin/compare/fault_list.rs");
+    for list in ["fault_list", "call_faults", "tick_faults"] {
+        println!("cargo:rerun-if-changed=src/bin/compare/{list}.rs");
+    }
     if std::env::var_os("CARGO_FEATURE_PROVED").is_none() {
         return;
     }
@@ -44,14 +46,13 @@ fn whole(folder: &Path, name: &str) -> String {
 fn faulty(source: &str) -> String {
     let mut text = source.to_string();
     let mut done: Vec<&str> = Vec::new();
-    for fault in FAULTS {
+    for fault in faults() {
         if done.contains(&fault.right) {
             continue;
         }
         done.push(fault.right);
         assert_eq!(source.matches(fault.right).count(), 1, "the place of a fault: {}", fault.right);
-        let wrong: String = FAULTS
-            .iter()
+        let wrong: String = faults()
             .enumerate()
             .filter(|(_, other)| other.right == fault.right)
             .map(|(number, other)| format!("if crate::faults::is_on({}) {{ {} }} else ", number + 1, other.wrong))
