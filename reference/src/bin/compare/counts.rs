@@ -1,5 +1,6 @@
 //! What the compared calls met: every state, decline, outcome, assignment and clause of the spoiled rule.
 
+use crate::clauses::{broken_clauses, CLAUSES};
 use crate::numbers::*;
 use reference::machine::csr;
 
@@ -10,25 +11,6 @@ const MASKS: [&str; 5] = ["stopped", "scaled", "lost", "rejected", "accepted"];
 const ASSIGNS: [&str; 20] = [
     "00", "01", "02", "03", "04", "05", "06", "07", "08", "09", "0A", "0B", "0C", "0D", "0E", "0F", "1x", "2x", "3x",
     "5x",
-];
-/// The clauses of the spoiled rule that a record of both machines can break.
-pub const CLAUSES: [&str; 16] = [
-    "CSR bit",
-    "control bit",
-    "factor of inputs 1-4",
-    "factor of inputs 5-8",
-    "assign code",
-    "stored code over Fh",
-    "Wait 2 in another class",
-    "Strobe without a word",
-    "counter above its factor",
-    "word over 3Fh",
-    "queue above 8",
-    "queue above 7",
-    "unused place not 0",
-    "sync count over 65,534",
-    "age over 131,070",
-    "cycle while a user sync waits",
 ];
 const EVENTS: [&str; 15] = [
     "RESET carried out",
@@ -269,34 +251,4 @@ fn is_active(n: &Record) -> bool {
     let wanted = n[0] & 0xC != 0 && n[0] & 0x10 != 0;
     let busy = (0..4).any(|b| n[BRANCH + 3 * b + 1] != 0 || n[BRANCH + 3 * b + 2] != 0);
     n[0] & 1 != 0 || n[STATE] != 0 || n[WAITING] == 1 || wanted || busy
-}
-
-/// The clauses once more, only to count them.
-fn broken_clauses(n: &Record) -> [bool; 16] {
-    let branch = |b: usize| (n[BRANCH + 3 * b].to_le_bytes(), n[BRANCH + 3 * b + 1], n[BRANCH + 3 * b + 2]);
-    let any = |is: &dyn Fn([u8; 8], u64, u64) -> bool| {
-        (0..4).any(|b| {
-            let (words, used, phase) = branch(b);
-            is(words, used, phase)
-        })
-    };
-    let loaded = n[STATE] == 5 || n[STATE] == 6 || n[WAITING] == 1;
-    [
-        n[0] & !0x1F_0FFF != 0,
-        n[1] & !0x9FFF != 0,
-        (0..4).any(|i| n[2 + i] > 0xF_FFFF),
-        (4..8).any(|i| n[2 + i] > 0x3FFF),
-        !(n[19] <= 0x3F || (0x50..=0x5F).contains(&n[19])),
-        n[CODE] > 15,
-        n[STATE] == 2 && n[CLASS] != 2 && n[CLASS] != 3,
-        any(&|_, used, phase| phase == 1 && used == 0),
-        (0..8).any(|i| n[COUNTERS + i] > n[2 + i]),
-        any(&|words, used, _| words.iter().take(used as usize).any(|&word| word > 0x3F)),
-        any(&|_, used, _| used > 8),
-        any(&|_, used, _| used == 8) && !loaded,
-        any(&|words, used, _| words.iter().skip(used as usize).any(|&word| word != 0)),
-        n[SYNC_COUNT] > 65_534,
-        n[AGE] > 131_070,
-        n[WAITING] == 1 && n[STATE] != 0,
-    ]
 }

@@ -2,7 +2,9 @@
 //! deep. Records are changed between calls too, so that the spoiled rule and records that no list reaches are met.
 
 use crate::numbers::*;
+use crate::profile::{Acknowledges, Profile};
 use crate::random::Random;
+use crate::values::{csr_value, listed, number, place, value, word};
 use reference::machine::{csr, MEMORY_WORDS};
 
 /// A step of a list: a call with one of the lent memories, or a record put in the place of the one that stands.
@@ -10,84 +12,6 @@ use reference::machine::{csr, MEMORY_WORDS};
 pub enum Step {
     Call { memory: usize, call: Call },
     Put(Box<Record>),
-}
-
-/// How the acknowledges answer.
-#[derive(Clone, Copy)]
-enum Acknowledges {
-    None,
-    All,
-    Random,
-    /// As the handshake wants them, late by chance.
-    Willing(u32),
-    /// The same, but for the branches of this mask, which stay silent.
-    Partly(u32),
-}
-
-/// Chances in 256 and habits, drawn once for a list.
-struct Profile {
-    pulses: u32,
-    inputs: u32,
-    strobe: u32,
-    pass_2: u32,
-    fail_2: u32,
-    pass_3: u32,
-    fail_3: u32,
-    busy: u32,
-    inhibit: u32,
-    acknowledges: Acknowledges,
-    /// Calls that are no ticks.
-    others: u32,
-    /// Records put in by change.
-    changes: u32,
-    /// Memories of other lengths.
-    lengths: u32,
-    /// GO is set again where it is clear.
-    restarts: u32,
-}
-
-impl Profile {
-    fn new(random: &mut Random) -> Profile {
-        let mut some = |values: &[u32]| random.pick(values);
-        let pulses = some(&[20, 60, 120, 200, 250]);
-        let inputs = some(&[0xFFF, 0xFFF, 0x001, 0x00F, 0xF00, 0x0F0, 0x100]);
-        let strobe = some(&[0, 60, 128, 255]);
-        let pass_2 = some(&[0, 30, 100, 200]);
-        let fail_2 = some(&[0, 10, 60, 150]);
-        let pass_3 = some(&[0, 30, 100, 200]);
-        let fail_3 = some(&[0, 10, 60, 150]);
-        let busy = some(&[0, 0, 10, 80, 200]);
-        let inhibit = some(&[0, 0, 10, 120]);
-        let others = some(&[4, 12, 30, 90]);
-        let changes = some(&[0, 0, 0, 60, 110]);
-        let lengths = some(&[0, 0, 0, 4, 12]);
-        let restarts = some(&[10, 60, 120]);
-        let acknowledges = match random.below(8) {
-            0 => Acknowledges::None,
-            1 => Acknowledges::All,
-            2 => Acknowledges::Random,
-            3 => Acknowledges::Partly(1 << random.below(4)),
-            4 => Acknowledges::Willing(20),
-            5 => Acknowledges::Willing(90),
-            _ => Acknowledges::Willing(250),
-        };
-        Profile {
-            pulses,
-            inputs,
-            strobe,
-            pass_2,
-            fail_2,
-            pass_3,
-            fail_3,
-            busy,
-            inhibit,
-            acknowledges,
-            others,
-            changes,
-            lengths,
-            restarts,
-        }
-    }
 }
 
 pub struct Maker {
@@ -352,86 +276,5 @@ impl Maker {
                 n[STATE] = 0;
             }
         }
-    }
-}
-
-/// A register's number, mostly one that exists.
-fn number(random: &mut Random) -> u32 {
-    if random.once_in(25) {
-        random.pick(&[20, 21, 31, 32, 255, 256, u32::MAX])
-    } else {
-        random.below(20)
-    }
-}
-
-/// A listed code for register 19.
-fn listed(random: &mut Random) -> u32 {
-    match random.below(3) {
-        0 => random.below(16),
-        1 => random.below(0x40),
-        _ => random.pick(&[0x00, 0x0D, 0x0E, 0x0F, 0x10, 0x1F, 0x20, 0x2F, 0x30, 0x3F, 0x50, 0x5F, 0x57]),
-    }
-}
-
-/// A value for a register: mostly small, often at the limit or one past it.
-fn value(random: &mut Random, number: u32) -> u32 {
-    if random.once_in(12) {
-        return random.next() >> random.below(32);
-    }
-    match number {
-        0 => csr_value(random),
-        1 => random.next() & random.pick(&[0x9FFF, 0x1FFE, 0x1FFF, 0xFFFF, 0x1_9FFF]),
-        2..=5 => random.pick(&[0, 1, 2, 5, 0x3FFF, 0x4000, 0xF_FFFF, 0x10_0000]),
-        6..=9 => random.pick(&[0, 1, 2, 5, 0x3FFF, 0x4000, 0x8000, 0xF_FFFF]),
-        10 => random.next() & random.next(),
-        11 => random.pick(&[0, 1, 2, 3, 0xFFFF, 0x1_0000]),
-        12..=15 => random.pick(&[0, 1, 2, 3, 4, 0xFFFF, 0x1_0000]),
-        16 => random.pick(&[0, 1, 2, 3, 0xFF, 0x100, 0xFFFF]),
-        19 if random.once_in(3) => random.pick(&[0x40, 0x4F, 0x60, 0x7F, 0x80, 0x100]),
-        19 => listed(random),
-        _ => random.next(),
-    }
-}
-
-/// A value for the CSR: what a running unit is told, or any bits.
-fn csr_value(random: &mut Random) -> u32 {
-    let request = random.pick(&[csr::PAUSE_AND_SYNC, csr::FORCE_SYNC, csr::PAUSE_AND_SYNC | csr::FORCE_SYNC]);
-    match random.below(20) {
-        0 | 1 => csr::GO,
-        2 => csr::GO << 16,
-        3..=6 => csr::ENABLE_SYNC | request,
-        7 => csr::ENABLE_SYNC | csr::PAUSE_ON_NEXT_SYNC,
-        8 => request,
-        9 => (request | csr::ENABLE_SYNC) << 16,
-        10 => csr::RESET | random.next() & 0x0FFF_0FFF,
-        11 => csr::RESET,
-        12 => csr::CLEAR_STATUS | random.next() & 0x0FFF,
-        13 => csr::INITIALIZE | if random.once_in(2) { random.next() & 0x8FFF_4FFF } else { 0 },
-        14 => 1 << random.below(32),
-        15 => (1 << random.below(12)) << 16,
-        16 => csr::GO | csr::GO << 16,
-        17 => random.next() & 0x8FFF_0FFF,
-        18 => random.next() & 0x0000_0FFF & !csr::PAUSE_AND_SYNC,
-        _ => random.next(),
-    }
-}
-
-fn place(random: &mut Random) -> u32 {
-    if random.once_in(12) {
-        random.pick(&[4_095, 4_096, 4_097, 65_536, u32::MAX])
-    } else {
-        random.below(MEMORY_WORDS as u32)
-    }
-}
-
-/// A memory word; `habit` says which class is frequent.
-fn word(random: &mut Random, habit: u32) -> u16 {
-    let any = random.next() as u16;
-    match habit {
-        0 => any,
-        1 => any & !0x000E | 0x0003,
-        2 => any & !0x000E | 0x0005,
-        3 => any & !0x000E | 0x0009,
-        _ => any | 0x0001,
     }
 }

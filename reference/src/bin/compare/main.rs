@@ -1,6 +1,7 @@
 //! Compares the proved library with the model: random lists of calls, every reply, the record after every call, and
 //! the memory. See docs/PERFORMANCE.md for what is covered.
 
+mod clauses;
 mod counts;
 mod faults;
 #[allow(dead_code, unused_parens)]
@@ -8,14 +9,19 @@ mod faulty {
     include!(concat!(env!("OUT_DIR"), "/faulty.rs"));
 }
 mod lists;
+mod models;
 mod numbers;
+mod pair;
+mod profile;
 mod random;
 mod scripts;
+mod values;
 
 use counts::Counts;
 use lists::{Maker, Step};
+use models::{Faulty, Model};
 use numbers::*;
-use reference::account::Account;
+use pair::Pair;
 use std::process::ExitCode;
 
 const DEFAULT_SEED: u64 = 1;
@@ -26,77 +32,6 @@ struct Difference {
     memories: Vec<Vec<u16>>,
     steps: Vec<Step>,
     says: String,
-}
-
-/// The two machines beside each other.
-struct Pair {
-    proved: Record,
-    model: Record,
-    memories: Vec<Vec<u16>>,
-    model_memories: Vec<Vec<u16>>,
-    /// From fresh, as long as only calls change the record.
-    account: Option<Account>,
-}
-
-impl Pair {
-    fn new(memories: &[Vec<u16>]) -> Pair {
-        Pair {
-            proved: FRESH,
-            model: FRESH,
-            memories: memories.to_vec(),
-            model_memories: memories.to_vec(),
-            account: Some(Account::new()),
-        }
-    }
-
-    /// One step on both; says where they differ.
-    fn step<M: Machine>(&mut self, step: &Step) -> Result<Option<Reply>, String> {
-        let (memory, call) = match step {
-            Step::Put(record) => {
-                self.proved = **record;
-                self.model = **record;
-                self.account = None;
-                return Ok(None);
-            }
-            Step::Call { memory, call } => (*memory, *call),
-        };
-        let before = self.proved;
-        let mut replies = [[0; 8]];
-        proved(&mut self.proved, &mut self.memories[memory], &[call], &mut replies);
-        let [reply] = replies;
-        let other = M::call(&mut self.model, &mut self.model_memories[memory], call);
-        if reply != other {
-            return Err(format!("replies: proved {reply:X?}, model {other:X?}"));
-        }
-        if self.proved != self.model {
-            let fields: Vec<String> = (0..RECORD)
-                .filter(|&i| self.proved[i] != self.model[i])
-                .map(|i| format!("{}: proved {:X}, model {:X}", FIELDS[i], self.proved[i], self.model[i]))
-                .collect();
-            return Err(format!("records: {}", fields.join("; ")));
-        }
-        if self.memories[memory] != self.model_memories[memory] {
-            return Err("memories".into());
-        }
-        // [Declines.1b] a record that is spoiled stays as it is, and so does the record of a read that is carried out.
-        if reply[0] == 1 && self.proved != before {
-            return Err("a declined call changed the record on both sides".into());
-        }
-        self.keep_account(call, &reply)?;
-        Ok(Some(reply))
-    }
-
-    fn keep_account(&mut self, call: Call, reply: &Reply) -> Result<(), String> {
-        let Some(account) = &mut self.account else { return Ok(()) };
-        let done = if reply[0] == 0 { Ok(()) } else { Err(reply[0] as u8) };
-        match call[0] {
-            WRITE_REGISTER => account.write_register(call[1] as u32, call[2] as u32, done),
-            TICK => account.tick(call[1] as u32, call[2] as u32, &answer_of(reply)),
-            MAKE_FRESH => *account = Account::new(),
-            _ => {}
-        }
-        account.check(&Model::of(&self.proved)).map_err(|says| format!("the account: {says}"))
-    }
 }
 
 /// Makes and runs the list of a seed.

@@ -1,6 +1,7 @@
 //! Random scripts through a console program and through the model's console: the bytes that they print must be equal.
 
 use crate::lists::{Maker, Step};
+use crate::models::Model;
 use crate::numbers::*;
 use crate::random::Random;
 use reference::console;

@@ -1,0 +1,85 @@
+//! Random values for the calls of a list: register numbers and values, places and words of the memory.
+
+use crate::random::Random;
+use reference::machine::{csr, MEMORY_WORDS};
+
+/// A register's number, mostly one that exists.
+pub fn number(random: &mut Random) -> u32 {
+    if random.once_in(25) {
+        random.pick(&[20, 21, 31, 32, 255, 256, u32::MAX])
+    } else {
+        random.below(20)
+    }
+}
+
+/// A listed code for register 19.
+pub fn listed(random: &mut Random) -> u32 {
+    match random.below(3) {
+        0 => random.below(16),
+        1 => random.below(0x40),
+        _ => random.pick(&[0x00, 0x0D, 0x0E, 0x0F, 0x10, 0x1F, 0x20, 0x2F, 0x30, 0x3F, 0x50, 0x5F, 0x57]),
+    }
+}
+
+/// A value for a register: mostly small, often at the limit or one past it.
+pub fn value(random: &mut Random, number: u32) -> u32 {
+    if random.once_in(12) {
+        return random.next() >> random.below(32);
+    }
+    match number {
+        0 => csr_value(random),
+        1 => random.next() & random.pick(&[0x9FFF, 0x1FFE, 0x1FFF, 0xFFFF, 0x1_9FFF]),
+        2..=5 => random.pick(&[0, 1, 2, 5, 0x3FFF, 0x4000, 0xF_FFFF, 0x10_0000]),
+        6..=9 => random.pick(&[0, 1, 2, 5, 0x3FFF, 0x4000, 0x8000, 0xF_FFFF]),
+        10 => random.next() & random.next(),
+        11 => random.pick(&[0, 1, 2, 3, 0xFFFF, 0x1_0000]),
+        12..=15 => random.pick(&[0, 1, 2, 3, 4, 0xFFFF, 0x1_0000]),
+        16 => random.pick(&[0, 1, 2, 3, 0xFF, 0x100, 0xFFFF]),
+        19 if random.once_in(3) => random.pick(&[0x40, 0x4F, 0x60, 0x7F, 0x80, 0x100]),
+        19 => listed(random),
+        _ => random.next(),
+    }
+}
+
+/// A value for the CSR: what a running unit is told, or any bits.
+pub fn csr_value(random: &mut Random) -> u32 {
+    let request = random.pick(&[csr::PAUSE_AND_SYNC, csr::FORCE_SYNC, csr::PAUSE_AND_SYNC | csr::FORCE_SYNC]);
+    match random.below(20) {
+        0 | 1 => csr::GO,
+        2 => csr::GO << 16,
+        3..=6 => csr::ENABLE_SYNC | request,
+        7 => csr::ENABLE_SYNC | csr::PAUSE_ON_NEXT_SYNC,
+        8 => request,
+        9 => (request | csr::ENABLE_SYNC) << 16,
+        10 => csr::RESET | random.next() & 0x0FFF_0FFF,
+        11 => csr::RESET,
+        12 => csr::CLEAR_STATUS | random.next() & 0x0FFF,
+        13 => csr::INITIALIZE | if random.once_in(2) { random.next() & 0x8FFF_4FFF } else { 0 },
+        14 => 1 << random.below(32),
+        15 => (1 << random.below(12)) << 16,
+        16 => csr::GO | csr::GO << 16,
+        17 => random.next() & 0x8FFF_0FFF,
+        18 => random.next() & 0x0000_0FFF & !csr::PAUSE_AND_SYNC,
+        _ => random.next(),
+    }
+}
+
+pub fn place(random: &mut Random) -> u32 {
+    if random.once_in(12) {
+        random.pick(&[4_095, 4_096, 4_097, 65_536, u32::MAX])
+    } else {
+        random.below(MEMORY_WORDS as u32)
+    }
+}
+
+/// A memory word; `habit` says which class is frequent.
+pub fn word(random: &mut Random, habit: u32) -> u16 {
+    let any = random.next() as u16;
+    match habit {
+        0 => any,
+        1 => any & !0x000E | 0x0003,
+        2 => any & !0x000E | 0x0005,
+        3 => any & !0x000E | 0x0009,
+        _ => any | 0x0001,
+    }
+}
