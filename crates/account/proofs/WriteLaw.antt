@@ -30,7 +30,7 @@ use Rattle.branches.proofs.ReadoutLaws as readout
 use Rattle.core.specs.Core as core
 use Rattle.supervisor.specs.Supervisor.{freshOf, resetOf, initializedOf}
 use Rattle.supervisor.specs.declared.Supervisor.{Supervisor}
-use Rattle.calls.specs.Registers.{afterCsrOf, csrWrittenOf, coreWrittenOf, writtenOf}
+use Rattle.access.specs.Access.{afterCsrOf, csrWrittenOf, coreWrittenOf, writtenOf}
 use Rattle.account.specs.AccountFields.{Account, put}
 use Rattle.account.specs.Account.{start, afterRequest, afterWrite}
 use Rattle.account.proofs.Invariant.{Prescaling, Ordering, Invariant}

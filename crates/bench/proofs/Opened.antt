@@ -18,7 +18,7 @@ use Rattle.branch.specs.Branch as branch
 use Rattle.branches.specs.Readout as readout
 use Rattle.core.specs.Core as core
 use Rattle.supervisor.specs.Supervisor as supervisor
-use Rattle.calls.specs.Registers as write
+use Rattle.access.specs.Access as write
 use Rattle.calls.specs.Calls as calls
 use Rattle.bench.specs.Asks as asks
 

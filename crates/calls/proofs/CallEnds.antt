@@ -19,7 +19,7 @@ use Rattle.calls.specs.declared.WriteDone.{WriteDone}
 use Rattle.calls.specs.declared.ReadDone.{ReadDone}
 use Rattle.calls.specs.declared.TickDone.{TickDone}
 use Rattle.calls.specs.Answers.{Reply, declined, done, value, ticked, verdictReply, readingReply, tickReply}
-use Rattle.calls.specs.Registers.{writtenOf}
+use Rattle.access.specs.Access.{writtenOf}
 use Rattle.calls.specs.Calls.{lastRegister, memoryPlaces, writeError, readError, markedOf, isProtected}
 use Rattle.calls.specs.Calls.{writeRegisterOf, readRegisterOf, writeMemoryOf, readMemoryOf, isOutOfRange, tickOf}
 use Rattle.calls.specs.Runs.{Ask, writeRegister, readRegister, writeMemory, readMemory, tick, askOf}

@@ -21,7 +21,7 @@ use Rattle.supervisor.specs.Supervisor.{withCore, isActiveOf, isSpoiledOf, tick
 use Rattle.supervisor.specs.declared.Supervisor.{Supervisor}
 use Rattle.supervisor.specs.declared.Answer.{Answer}
 use Rattle.supervisor.specs.declared.Ticked.{Ticked}
-use Rattle.calls.specs.Registers.{writtenOf, storedOf}
+use Rattle.access.specs.Access.{writtenOf, storedOf}
 use Rattle.calls.specs.declared.Decline.{Decline}
 use Rattle.calls.specs.declared.Decline.the-variants.{Spoiled, Length, Place, Active, Value}
 use Rattle.calls.specs.declared.Verdict.the-variants.{Done, Declined}

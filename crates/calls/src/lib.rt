@@ -4,6 +4,8 @@
 ghost use mathlib.Core.Path.{_≡_};
 ghost use Rattle.calls.specs.Calls.{markedOf, refuse, refuseRead, refuseTick, writeRegisterOf, readRegisterOf};
 ghost use Rattle.calls.specs.Calls.{writeMemoryOf, memoryAfterOf, readMemoryOf, tickOf};
+use access::stored;
+use access::written;
 use branch::Slot;
 use branches::Side;
 use core::Masks;
@@ -13,11 +15,6 @@ use registers::register::Register;
 use sequencer::states::Outcome;
 use supervisor::Answer;
 use supervisor::Supervisor;
-
-mod access;
-
-use access::stored;
-use access::written;
 
 // [Memory.1]
 pub const MEMORY_PLACES: usize = 4096;

@@ -28,11 +28,11 @@ use Rattle.calls.specs.Refusals.{statusBit, Leaves}
 use Rattle.account.specs.Demand3.{Demand3, wordsOf}
 use Rattle.reach.specs.NeverSpoiled.{OfType, KeepsUnspoiled, NeverSpoiled}
 use Rattle.bench.specs.Bench.{examples, allRight}
-use Rattle.script.specs.Text.{newline}
-use Rattle.script.specs.Reader.{linesOf}
+use Rattle.text.specs.Text.{newline}
+use Rattle.reader.specs.Reader.{linesOf}
 use Rattle.script.specs.Answers.{Session, lineAnswer, answersFrom}
 use Rattle.script.specs.AnswerLines.{sessionAt, OneLine, newlines}
-use Rattle.script.specs.declared.reader.Command.{Command}
+use Rattle.reader.specs.declared.Command.{Command}
 
 -- ---- demand 1, beside the contracts
 

@@ -44,7 +44,7 @@ use Rattle.core.specs.Core as core
 use Rattle.core.specs.declared.Core.{Core}
 use Rattle.supervisor.specs.Supervisor.{withCore, freshOf, initializedOf, resetOf}
 use Rattle.supervisor.specs.declared.Supervisor.{Supervisor}
-use Rattle.calls.specs.Registers.{afterCsrOf, csrWrittenOf, coreWrittenOf, writtenOf}
+use Rattle.access.specs.Access.{afterCsrOf, csrWrittenOf, coreWrittenOf, writtenOf}
 use Rattle.calls.specs.Calls.{markedOf}
 use Rattle.reach.specs.NeverSpoiled.{OfType}
 use Rattle.reach.proofs.Sound.{SoundCore, SoundBranch, SoundReadout, Unspoiled}

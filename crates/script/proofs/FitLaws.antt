@@ -25,14 +25,14 @@ use Rattle.calls.specs.declared.Verdict.{Verdict}
 use Rattle.calls.specs.declared.Verdict.the-variants.{Done, Declined}
 use Rattle.calls.specs.declared.Reading.{Reading}
 use Rattle.calls.specs.declared.Reading.the-variants as reading
-use Rattle.script.specs.Text.{hex}
-use Rattle.script.specs.Reader.{hasFieldOf, hasFields, hasForm, numberAt, commandOf, byteOf}
-use Rattle.script.specs.Reader.{isWriteRegisterOf, isReadRegisterOf, isWriteMemoryOf, isReadMemoryOf, isTickOf}
-use Rattle.script.specs.Printer.{outcomeText, slotText, sideAt, fieldsOf, spaced, replyText}
+use Rattle.text.specs.Text.{hex}
+use Rattle.reader.specs.Reader.{hasFieldOf, hasFields, hasForm, numberAt, commandOf, byteOf}
+use Rattle.reader.specs.Reader.{isWriteRegisterOf, isReadRegisterOf, isWriteMemoryOf, isReadMemoryOf, isTickOf}
+use Rattle.printer.specs.Printer.{outcomeText, slotText, sideAt, fieldsOf, spaced, replyText}
 use Rattle.script.specs.Answers.{Session, inputsOf, lineAnswer}
-use Rattle.script.specs.declared.reader.Command.{Command}
-use Rattle.script.specs.declared.reader.Command.the-variants.{WriteRegister, ReadRegister, WriteMemory}
-use Rattle.script.specs.declared.reader.Command.the-variants.{ReadMemory, Tick, Other}
+use Rattle.reader.specs.declared.Command.{Command}
+use Rattle.reader.specs.declared.Command.the-variants.{WriteRegister, ReadRegister, WriteMemory}
+use Rattle.reader.specs.declared.Command.the-variants.{ReadMemory, Tick, Other}
 
 -- ---- how long a text is
 

@@ -15,13 +15,13 @@ use native.Mathlib.Numerals.{add-one}
 use lib.ListN.{length, take, drop, set, length-set, length-drop, drop-of-length-le}
 use lib.Seq.{take-suc-set, append-snoc, drop-drop, length-take-le}
 use borrow.Author.Tests.{lt-ltb, le-leb, lt-leb}
-use Rattle.script.specs.Reader.{linesOf, lineLengthOf, commandOf}
+use Rattle.reader.specs.Reader.{linesOf, lineLengthOf, commandOf}
 use Rattle.script.specs.Answers.{scriptLimit, capacity, malformed, Session, freshSession, lineAnswer, sessionAfter}
 use Rattle.script.specs.Answers.{answersFrom, isSameOf, isHeaderOf, answersAfterHeader, answersOf}
-use Rattle.script.specs.Printer.{noText}
-use Rattle.script.specs.Page.{Page, page, write, writeByte}
-use Rattle.script.specs.declared.reader.Command.{Command}
-use Rattle.script.proofs.ReaderLaws.{lines-first, length-at-most}
+use Rattle.printer.specs.Printer.{noText}
+use Rattle.text.specs.Page.{Page, page, write, writeByte}
+use Rattle.reader.specs.declared.Command.{Command}
+use Rattle.reader.proofs.ReaderLaws.{lines-first, length-at-most}
 use Rattle.script.proofs.FitLaws.{answer-fits}
 
 -- ---- a text that fits

@@ -29,14 +29,14 @@ use Rattle.calls.specs.declared.Verdict.{Verdict}
 use Rattle.calls.specs.declared.Verdict.the-variants.{Done, Declined}
 use Rattle.calls.specs.declared.Reading.{Reading}
 use Rattle.calls.specs.declared.Reading.the-variants as reading
-use Rattle.script.specs.Text.{newline, space, hexDigit, hex, isDecimal, isCapital}
-use Rattle.script.specs.Reader.{beforeFirst, linesOf, commandOf}
-use Rattle.script.specs.Printer.{outcomeText, slotText, sideAt, fieldsOf, spaced, replyText, noText}
+use Rattle.text.specs.Text.{newline, space, hexDigit, hex, isDecimal, isCapital}
+use Rattle.reader.specs.Reader.{beforeFirst, linesOf, commandOf}
+use Rattle.printer.specs.Printer.{outcomeText, slotText, sideAt, fieldsOf, spaced, replyText, noText}
 use Rattle.script.specs.Answers.{Session, inputsOf, lineAnswer, sessionAfter, answersFrom}
 use Rattle.script.specs.AnswerLines.{sessionAt, letters, isIn, isPlain, Plain, OneLine, newlines}
-use Rattle.script.specs.declared.reader.Command.{Command}
-use Rattle.script.specs.declared.reader.Command.the-variants.{WriteRegister, ReadRegister, WriteMemory}
-use Rattle.script.specs.declared.reader.Command.the-variants.{ReadMemory, Tick, Other}
+use Rattle.reader.specs.declared.Command.{Command}
+use Rattle.reader.specs.declared.Command.the-variants.{WriteRegister, ReadRegister, WriteMemory}
+use Rattle.reader.specs.declared.Command.the-variants.{ReadMemory, Tick, Other}
 
 -- ---- lines
 

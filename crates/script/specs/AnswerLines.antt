@@ -11,8 +11,8 @@ use mathlib.Core.Bool.{Bool, true, false, cond, _||_}
 use mathlib.Core.List.{List, [], _∷_, _++_}
 use lib.Dec.{eqb}
 use Rattle.bits.specs.Bytes.{allOf}
-use Rattle.script.specs.Text.{newline, isDecimal, isCapital}
-use Rattle.script.specs.Reader.{commandOf}
+use Rattle.text.specs.Text.{newline, isDecimal, isCapital}
+use Rattle.reader.specs.Reader.{commandOf}
 use Rattle.script.specs.Answers.{Session, sessionAfter}
 
 -- the session after these lines

@@ -18,11 +18,11 @@ use Rattle.supervisor.specs.Supervisor.{freshOf}
 use Rattle.supervisor.specs.declared.Supervisor.{Supervisor}
 use Rattle.calls.specs.Answers.{Reply, declined}
 use Rattle.calls.specs.Runs.{Ask, writeRegister, readRegister, writeMemory, readMemory, tick, askOf, memoryAfter, zeroMemory}
-use Rattle.script.specs.Reader.{linesOf, commandOf}
-use Rattle.script.specs.Printer.{replyText, noText}
-use Rattle.script.specs.declared.reader.Command.{Command}
-use Rattle.script.specs.declared.reader.Command.the-variants.{WriteRegister, ReadRegister, WriteMemory}
-use Rattle.script.specs.declared.reader.Command.the-variants.{ReadMemory, Tick, Other}
+use Rattle.reader.specs.Reader.{linesOf, commandOf}
+use Rattle.printer.specs.Printer.{replyText, noText}
+use Rattle.reader.specs.declared.Command.{Command}
+use Rattle.reader.specs.declared.Command.the-variants.{WriteRegister, ReadRegister, WriteMemory}
+use Rattle.reader.specs.declared.Command.the-variants.{ReadMemory, Tick, Other}
 
 -- ---- constants of document 01
 

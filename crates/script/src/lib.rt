@@ -4,13 +4,10 @@ ghost use mathlib.Core.Path.{_≡_};
 ghost use Prim.Native.Nat.{_+_, _≤_};
 ghost use lib.ListN.{take, drop, length};
 ghost use Rattle.calls.specs.Runs.{zeroMemory};
-ghost use Rattle.script.specs.Reader.{linesOf};
+ghost use Rattle.reader.specs.Reader.{linesOf};
 ghost use Rattle.script.specs.Answers.{scriptLimit, capacity, freshSession};
 ghost use Rattle.script.specs.Answers.{isSameOf, isHeaderOf, answersFrom, answersOf};
 
-mod page;
-mod printer;
-pub mod reader;
 mod session;
 
 use calls::MEMORY_PLACES;

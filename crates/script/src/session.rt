@@ -3,14 +3,9 @@
 ghost use mathlib.Core.Path.{_≡_};
 ghost use Prim.Native.Nat.{_≤_};
 ghost use Rattle.calls.specs.Answers.{verdictReply, readingReply, tickReply};
-ghost use Rattle.script.specs.Printer.{replyText};
+ghost use Rattle.printer.specs.Printer.{replyText};
 ghost use Rattle.script.specs.Answers.{session, inputsOf, lineAnswer, sessionAfter};
-ghost use Rattle.script.specs.Page.{page, write};
-use crate::printer::put_no;
-use crate::printer::put_reading;
-use crate::printer::put_tick;
-use crate::printer::put_verdict;
-use crate::reader::Command;
+ghost use Rattle.text.specs.Page.{page, write};
 use calls::ReadDone;
 use calls::TickDone;
 use calls::WriteDone;
@@ -21,6 +16,11 @@ use calls::write_memory;
 use calls::write_register;
 use core::lines::Inputs;
 use core::lines::Lines;
+use printer::put_no;
+use printer::put_reading;
+use printer::put_tick;
+use printer::put_verdict;
+use reader::Command;
 use supervisor::Supervisor;
 
 // [Console.5] [Console.6] the number of a line of other form, and of a script that is not run

@@ -5,7 +5,7 @@ use mathlib.Core.Path.{_≡_, sym, ap, _∙_}
 use lib.ListN.{length, take, drop}
 use lib.Seq.{length-take-le}
 use borrow.Author.Tests.{not-true, not-false}
-use Rattle.script.specs.Reader.{linesOf}
+use Rattle.reader.specs.Reader.{linesOf}
 use Rattle.script.specs.Answers.{capacity, freshSession, isHeaderOf, answersFrom}
 use Rattle.script.proofs.RunLaws.{no-printed, long-script, bad-first, good-first}
 use borrow.Author.Needs.{needs}

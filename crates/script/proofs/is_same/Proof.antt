@@ -6,7 +6,7 @@ use native.Mathlib.Omega.{arith}
 use lib.ListN.{length, drop}
 use borrow.Author.Needs.{needs}
 use borrow.Author.Tests.{eq-eqb, ne-eqb}
-use Rattle.script.proofs.ReaderLaws.{same-lengths, same-after, same-fails, same-ends}
+use Rattle.script.proofs.HeaderLaws.{same-lengths, same-after, same-fails, same-ends}
 use Rattle.script.specs.Answers.{isSameOf}
 use Rattle.script.proofs.is_same.Statement.{statement}
 use Rattle.script.proofs.is_same.Tie as tie

@@ -9,13 +9,13 @@ use lib.ListN.{length, take, drop, length-drop, length-replicate}
 use lib.Seq.{take-all}
 use borrow.Author.Needs.{needs}
 use Rattle.calls.specs.Calls.{memoryPlaces}
-use Rattle.script.specs.Reader.{linesOf, firstLineOf}
+use Rattle.reader.specs.Reader.{linesOf, firstLineOf}
 use Rattle.script.specs.Answers.{scriptLimit, capacity, session, freshSession, lineAnswer, sessionAfter}
 use Rattle.script.specs.Answers.{answersFrom}
-use Rattle.script.specs.Page.{page, write}
-use Rattle.script.specs.declared.reader.Command.{Command}
-use Rattle.script.specs.declared.reader.Line.{Line}
-use Rattle.script.proofs.ReaderLaws.{length-at-most}
+use Rattle.text.specs.Page.{page, write}
+use Rattle.reader.specs.declared.Command.{Command}
+use Rattle.reader.specs.declared.Line.{Line}
+use Rattle.reader.proofs.ReaderLaws.{length-at-most}
 use Rattle.script.proofs.RunLaws.{turn-keeps-room, turn-keeps-answers, answers-none}
 use Rattle.script.proofs.run_from.Statement.{statement}
 use Rattle.script.proofs.run_from.Tie as tie

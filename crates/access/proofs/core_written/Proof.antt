@@ -1,0 +1,108 @@
+-- `access::core_written` meets its contract: one arm for each register.
+-- Written by tools/prove.py; no answer was changed by hand. Assumes nothing.
+use Rattle.access.specs.Access.{coreWrittenOf}
+use borrow.Author.Needs.{needs}
+use Rattle.access.proofs.core_written.Statement.{statement}
+use Rattle.access.proofs.core_written.Tie as tie
+
+enum-told : tie.Need-enum-told
+enum-told c = search needs
+
+enum-told-2 : tie.Need-enum-told-2
+enum-told-2 c = search needs
+
+enum-known-register : tie.Need-enum-known-register
+enum-known-register c = search needs
+
+with-factor-requires : tie.Need-with-factor-requires
+with-factor-requires c κs = search needs
+
+enum-told-3 : tie.Need-enum-told-3
+enum-told-3 c = search needs
+
+enum-told-4 : tie.Need-enum-told-4
+enum-told-4 c = search needs
+
+cast-t16 : tie.Need-cast-t16
+cast-t16 c = search needs
+
+enum-known-register-2 : tie.Need-enum-known-register-2
+enum-known-register-2 c = search needs
+
+written-requires : tie.Need-written-requires
+written-requires c κs = search needs
+
+enum-known-register-3 : tie.Need-enum-known-register-3
+enum-known-register-3 c = search needs
+
+zeroed-requires : tie.Need-zeroed-requires
+zeroed-requires c κs = search needs
+
+enum-told-5 : tie.Need-enum-told-5
+enum-told-5 c = search needs
+
+enum-told-6 : tie.Need-enum-told-6
+enum-told-6 c = search needs
+
+returns : tie.Need-returns
+unfolding coreWrittenOf
+returns c = rw (c .enum-told .given .1)
+
+returns-2 : tie.Need-returns-2
+unfolding coreWrittenOf
+returns-2 c = rw (c .enum-told2 .given .1)
+
+returns-3 : tie.Need-returns-3
+unfolding coreWrittenOf
+returns-3 c = rw (c .with-factor .ensures, c .before .before .register .given .1)
+
+returns-4 : tie.Need-returns-4
+unfolding coreWrittenOf
+returns-4 c = rw (c .enum-told3 .given .1)
+
+returns-5 : tie.Need-returns-5
+unfolding coreWrittenOf
+returns-5 c = rw (c .enum-told4 .given .1)
+
+returns-6 : tie.Need-returns-6
+unfolding coreWrittenOf
+returns-6 c = rw (c .written .ensures, c .before .before .register2 .given .1)
+
+returns-7 : tie.Need-returns-7
+unfolding coreWrittenOf
+returns-7 c = rw (c .zeroed .ensures, c .before .before .register3 .given .1)
+
+returns-8 : tie.Need-returns-8
+unfolding coreWrittenOf
+returns-8 c = rw (c .before .enum-told5 .given .1)
+
+returns-9 : tie.Need-returns-9
+unfolding coreWrittenOf
+returns-9 c = rw (c .enum-told6 .given .1)
+
+pub core-written-spec : {M : Type 1} → statement M
+core-written-spec =
+    tie.close
+    (tie.spec
+    enum-told
+    enum-told-2
+    enum-known-register
+    with-factor-requires
+    enum-told-3
+    enum-told-4
+    cast-t16
+    enum-known-register-2
+    written-requires
+    enum-known-register-3
+    zeroed-requires
+    enum-told-5
+    enum-told-6
+    returns
+    returns-2
+    returns-3
+    returns-4
+    returns-5
+    returns-6
+    returns-7
+    returns-8
+    returns-9)

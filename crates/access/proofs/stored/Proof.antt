@@ -1,0 +1,108 @@
+-- `access::stored` meets its contract: one arm for each register.
+-- Written by tools/prove.py; no answer was changed by hand. Assumes nothing.
+use Rattle.access.specs.Access.{storedOf}
+use borrow.Author.Needs.{needs}
+use Rattle.access.proofs.stored.Statement.{statement}
+use Rattle.access.proofs.stored.Tie as tie
+
+enum-told : tie.Need-enum-told
+enum-told c = search needs
+
+enum-told-2 : tie.Need-enum-told-2
+enum-told-2 c = search needs
+
+enum-known-register : tie.Need-enum-known-register
+enum-known-register c = search needs
+
+factor-requires : tie.Need-factor-requires
+factor-requires c κs = search needs
+
+enum-told-3 : tie.Need-enum-told-3
+enum-told-3 c = search needs
+
+enum-told-4 : tie.Need-enum-told-4
+enum-told-4 c = search needs
+
+cast-result : tie.Need-cast-result
+cast-result c = search needs
+
+enum-known-register-2 : tie.Need-enum-known-register-2
+enum-known-register-2 c = search needs
+
+stored-requires : tie.Need-stored-requires
+stored-requires c κs = search needs
+
+enum-known-register-3 : tie.Need-enum-known-register-3
+enum-known-register-3 c = search needs
+
+stored-requires-2 : tie.Need-stored-requires-2
+stored-requires-2 c κs = search needs
+
+enum-told-5 : tie.Need-enum-told-5
+enum-told-5 c = search needs
+
+enum-told-6 : tie.Need-enum-told-6
+enum-told-6 c = search needs
+
+returns : tie.Need-returns
+unfolding storedOf
+returns c = rw (c .enum-told .given .1)
+
+returns-2 : tie.Need-returns-2
+unfolding storedOf
+returns-2 c = rw (c .enum-told2 .given .1)
+
+returns-3 : tie.Need-returns-3
+unfolding storedOf
+returns-3 c = rw (c .factor .ensures, c .before .before .register .given .1)
+
+returns-4 : tie.Need-returns-4
+unfolding storedOf
+returns-4 c = rw (c .enum-told3 .given .1)
+
+returns-5 : tie.Need-returns-5
+unfolding storedOf
+returns-5 c = rw (c .before .enum-told4 .given .1)
+
+returns-6 : tie.Need-returns-6
+unfolding storedOf
+returns-6 c = rw (c .stored .ensures, c .before .before .register2 .given .1)
+
+returns-7 : tie.Need-returns-7
+unfolding storedOf
+returns-7 c = rw (c .stored2 .ensures, c .before .before .register3 .given .1)
+
+returns-8 : tie.Need-returns-8
+unfolding storedOf
+returns-8 c = rw (c .enum-told5 .given .1)
+
+returns-9 : tie.Need-returns-9
+unfolding storedOf
+returns-9 c = rw (c .enum-told6 .given .1)
+
+pub stored-spec : {M : Type 1} → statement M
+stored-spec =
+    tie.close
+    (tie.spec
+    enum-told
+    enum-told-2
+    enum-known-register
+    factor-requires
+    enum-told-3
+    enum-told-4
+    cast-result
+    enum-known-register-2
+    stored-requires
+    enum-known-register-3
+    stored-requires-2
+    enum-told-5
+    enum-told-6
+    returns
+    returns-2
+    returns-3
+    returns-4
+    returns-5
+    returns-6
+    returns-7
+    returns-8
+    returns-9)

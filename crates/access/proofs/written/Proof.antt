@@ -1,0 +1,178 @@
+-- `access::written` meets its contract: one arm for each register.
+-- Written by tools/prove.py; no answer was changed by hand. Assumes nothing.
+use Rattle.access.specs.Access.{writtenOf}
+use borrow.Author.Needs.{needs}
+use Rattle.access.proofs.written.Statement.{statement}
+use Rattle.access.proofs.written.Tie as tie
+
+enum-told : tie.Need-enum-told
+enum-told c = search needs
+
+csr-written-requires : tie.Need-csr-written-requires
+csr-written-requires c κs = search needs
+
+enum-told-2 : tie.Need-enum-told-2
+enum-told-2 c = search needs
+
+core-written-requires : tie.Need-core-written-requires
+core-written-requires c κs = search needs
+
+with-core-requires : tie.Need-with-core-requires
+with-core-requires c κs = search needs
+
+enum-told-3 : tie.Need-enum-told-3
+enum-told-3 c = search needs
+
+core-written-requires-2 : tie.Need-core-written-requires-2
+core-written-requires-2 c κs = search needs
+
+with-core-requires-2 : tie.Need-with-core-requires-2
+with-core-requires-2 c κs = search needs
+
+enum-told-4 : tie.Need-enum-told-4
+enum-told-4 c = search needs
+
+roc-written-requires : tie.Need-roc-written-requires
+roc-written-requires c κs = search needs
+
+enum-told-5 : tie.Need-enum-told-5
+enum-told-5 c = search needs
+
+core-written-requires-3 : tie.Need-core-written-requires-3
+core-written-requires-3 c κs = search needs
+
+with-core-requires-3 : tie.Need-with-core-requires-3
+with-core-requires-3 c κs = search needs
+
+enum-told-6 : tie.Need-enum-told-6
+enum-told-6 c = search needs
+
+core-written-requires-4 : tie.Need-core-written-requires-4
+core-written-requires-4 c κs = search needs
+
+with-core-requires-4 : tie.Need-with-core-requires-4
+with-core-requires-4 c κs = search needs
+
+enum-told-7 : tie.Need-enum-told-7
+enum-told-7 c = search needs
+
+core-written-requires-5 : tie.Need-core-written-requires-5
+core-written-requires-5 c κs = search needs
+
+with-core-requires-5 : tie.Need-with-core-requires-5
+with-core-requires-5 c κs = search needs
+
+enum-told-8 : tie.Need-enum-told-8
+enum-told-8 c = search needs
+
+core-written-requires-6 : tie.Need-core-written-requires-6
+core-written-requires-6 c κs = search needs
+
+with-core-requires-6 : tie.Need-with-core-requires-6
+with-core-requires-6 c κs = search needs
+
+enum-told-9 : tie.Need-enum-told-9
+enum-told-9 c = search needs
+
+returns : tie.Need-returns
+unfolding writtenOf
+returns c = rw (c .csr-written .ensures, c .before .enum-told .given .1)
+
+returns-2 : tie.Need-returns-2
+unfolding writtenOf
+returns-2 c =
+    rw (
+      c .with-core .ensures,
+      c .before .core-written .ensures,
+      c .before .before .enum-told2 .given .1,
+    )
+
+returns-3 : tie.Need-returns-3
+unfolding writtenOf
+returns-3 c =
+    rw (
+      c .with-core2 .ensures,
+      c .before .core-written2 .ensures,
+      c .before .before .enum-told3 .given .1,
+    )
+
+returns-4 : tie.Need-returns-4
+unfolding writtenOf
+returns-4 c = rw (c .roc-written .ensures, c .before .enum-told4 .given .1)
+
+returns-5 : tie.Need-returns-5
+unfolding writtenOf
+returns-5 c =
+    rw (
+      c .with-core3 .ensures,
+      c .before .core-written3 .ensures,
+      c .before .before .enum-told5 .given .1,
+    )
+
+returns-6 : tie.Need-returns-6
+unfolding writtenOf
+returns-6 c =
+    rw (
+      c .with-core4 .ensures,
+      c .before .core-written4 .ensures,
+      c .before .before .enum-told6 .given .1,
+    )
+
+returns-7 : tie.Need-returns-7
+unfolding writtenOf
+returns-7 c =
+    rw (
+      c .with-core5 .ensures,
+      c .before .core-written5 .ensures,
+      c .before .before .enum-told7 .given .1,
+    )
+
+returns-8 : tie.Need-returns-8
+unfolding writtenOf
+returns-8 c =
+    rw (
+      c .with-core6 .ensures,
+      c .before .core-written6 .ensures,
+      c .before .before .enum-told8 .given .1,
+    )
+
+returns-9 : tie.Need-returns-9
+unfolding writtenOf
+returns-9 c = rw (c .enum-told9 .given .1)
+
+pub written-spec : {M : Type 1} → statement M
+written-spec =
+    tie.close
+    (tie.spec
+    enum-told
+    csr-written-requires
+    enum-told-2
+    core-written-requires
+    with-core-requires
+    enum-told-3
+    core-written-requires-2
+    with-core-requires-2
+    enum-told-4
+    roc-written-requires
+    enum-told-5
+    core-written-requires-3
+    with-core-requires-3
+    enum-told-6
+    core-written-requires-4
+    with-core-requires-4
+    enum-told-7
+    core-written-requires-5
+    with-core-requires-5
+    enum-told-8
+    core-written-requires-6
+    with-core-requires-6
+    enum-told-9
+    returns
+    returns-2
+    returns-3
+    returns-4
+    returns-5
+    returns-6
+    returns-7
+    returns-8
+    returns-9)

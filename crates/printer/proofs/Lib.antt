@@ -1,0 +1,2 @@
+-- The law of the parts; the proofs of functions stand in folders of their own. Assumes nothing.
+pub mod PartLaws

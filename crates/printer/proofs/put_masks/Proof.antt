@@ -1,0 +1,50 @@
+-- `printer::put_masks` meets its contract: five masks one after the other; the writes are the write of their
+-- join (`write-5`). Written by tools/prove.py; `returns` was changed by hand. Assumes nothing.
+use Rattle.text.specs.Page.{write}
+use Rattle.text.proofs.PageLaws.{write-5}
+use Rattle.printer.specs.Parts.{masksPart}
+use borrow.Author.Needs.{needs}
+use Rattle.printer.proofs.put_masks.Statement.{statement}
+use Rattle.printer.proofs.put_masks.Tie as tie
+
+put-mask-requires : tie.Need-put-mask-requires
+put-mask-requires c κs = search needs
+
+put-mask-requires-2 : tie.Need-put-mask-requires-2
+put-mask-requires-2 c κs = search needs
+
+put-mask-requires-3 : tie.Need-put-mask-requires-3
+put-mask-requires-3 c κs = search needs
+
+put-mask-requires-4 : tie.Need-put-mask-requires-4
+put-mask-requires-4 c κs = search needs
+
+put-mask-requires-5 : tie.Need-put-mask-requires-5
+put-mask-requires-5 c κs = search needs
+
+same-length : tie.Need-same-length
+same-length c = search needs
+
+returns : tie.Need-returns
+unfolding masksPart
+returns c =
+    rw (
+      c .before .before .put-mask5 .ensures,
+      c .before .before .before .before .before .before .put-mask4 .ensures,
+      c .before .before .before .before .before .before .before .before .before .before .put-mask3 .ensures,
+      c .before .before .before .before .before .before .before .before .before .before .before .before .before .before .put-mask2 .ensures,
+      c .before .before .before .before .before .before .before .before .before .before .before .before .before .before .before .before .before .before .put-mask .ensures,
+      write-5,
+    )
+
+pub put-masks-spec : {M : Type 1} → statement M
+put-masks-spec =
+    tie.close
+    (tie.spec
+    put-mask-requires
+    put-mask-requires-2
+    put-mask-requires-3
+    put-mask-requires-4
+    put-mask-requires-5
+    same-length
+    returns)

@@ -1,0 +1,58 @@
+-- `printer::put_reading` meets its contract: in each case of the reading the one call's contract is the answer.
+-- Written by tools/prove.py; no answer was changed by hand. Assumes nothing.
+use Rattle.text.specs.Page.{write}
+use borrow.Author.Needs.{needs}
+use Rattle.printer.proofs.put_reading.Statement.{statement}
+use Rattle.printer.proofs.put_reading.Tie as tie
+
+enum-known-answer : tie.Need-enum-known-answer
+enum-known-answer c = search needs
+
+put-value-requires : tie.Need-put-value-requires
+put-value-requires c κs = search needs
+
+enum-known-answer-2 : tie.Need-enum-known-answer-2
+enum-known-answer-2 c = search needs
+
+number-of-requires : tie.Need-number-of-requires
+number-of-requires c κs = search needs
+
+put-no-requires : tie.Need-put-no-requires
+put-no-requires c κs = search needs
+
+same-length : tie.Need-same-length
+same-length c = search needs
+
+returns : tie.Need-returns
+unfolding write
+returns c =
+    rw (
+      c .before .before .put-value .ensures,
+      c .before .before .before .before .before .answer .given .1,
+    )
+
+same-length-2 : tie.Need-same-length-2
+same-length-2 c = search needs
+
+returns-2 : tie.Need-returns-2
+unfolding write
+returns-2 c =
+    rw (
+      c .before .before .put-no .ensures,
+      c .before .before .before .number-of .ensures .0,
+      c .before .before .before .before .before .before .answer2 .given .1,
+    )
+
+pub put-reading-spec : {M : Type 1} → statement M
+put-reading-spec =
+    tie.close
+    (tie.spec
+    enum-known-answer
+    put-value-requires
+    enum-known-answer-2
+    number-of-requires
+    put-no-requires
+    same-length
+    returns
+    same-length-2
+    returns-2)

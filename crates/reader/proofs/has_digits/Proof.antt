@@ -1,0 +1,73 @@
+-- `reader::has_digits` meets its contract. The loop's invariant: each byte passed is a digit; the measure is what
+-- is left of the count. Written by hand over the lines that `rt dev` prints. Assumes nothing.
+use Prim.Native.Nat.{ℕ, _+_, _-_, _<_, _≤_}
+use mathlib.Core.Path.{_≡_, sym, ap, _∙_}
+use mathlib.Core.Bool.{true}
+use native.Mathlib.Omega.{arith}
+use borrow.Author.Count.{below-none, below-more}
+use borrow.Author.Needs.{needs}
+use borrow.Author.Tests.{not-true, not-false}
+use Rattle.bits.proofs.TestLaws.{at-every}
+use Rattle.text.specs.Text.{isDigitOf}
+use Rattle.reader.specs.Reader.{byteOf}
+use Rattle.reader.proofs.ReaderLaws.{every-fails}
+use Rattle.reader.proofs.has_digits.Statement.{statement}
+use Rattle.reader.proofs.has_digits.Tie as tie
+
+abbrev Inv-loop : tie.InvT-loop
+Inv-loop line at count i₀ i = (i ≤ count) × ((k : ℕ) → k < i → isDigitOf (byteOf line (at + k)) ≡ true)
+
+abbrev μ-loop : tie.MeasureT-loop
+μ-loop line at count i₀ i = count - i
+
+loop-holds : tie.Need-loop-holds Inv-loop μ-loop
+loop-holds c = (omega arith, λ k h. absurd (omega arith))
+
+add-byte : tie.Need-add-byte Inv-loop μ-loop
+add-byte c = search needs
+
+byte-requires : tie.Need-byte-requires Inv-loop μ-loop
+byte-requires c κs = search needs
+
+is-digit-requires : tie.Need-is-digit-requires Inv-loop μ-loop
+is-digit-requires c κs = search needs
+
+returns : tie.Need-returns Inv-loop μ-loop
+returns c =
+    let i = c .before .before .before .before .loop .i in
+    sym (every-fails _ _ i (c .before .before .before .loop-test .taken)
+    (ap isDigitOf (sym (c .before .before .byte .ensures)) ∙ sym (c .before .is-digit .ensures) ∙ not-true _ (c .if1 .taken)))
+
+add-i : tie.Need-add-i Inv-loop μ-loop
+add-i c = search needs
+
+loop-less : tie.Need-loop-less Inv-loop μ-loop
+loop-less c = search needs
+
+loop-again : tie.Need-loop-again Inv-loop μ-loop
+loop-again c = (
+  omega arith,
+  below-more _ _ (c .before .before .before .before .loop .inv .1)
+      (ap isDigitOf (sym (c .before .before .byte .ensures)) ∙ sym (c .before .is-digit .ensures) ∙ not-false _ (c .if1 .left)),
+)
+
+returns-2 : tie.Need-returns-2 Inv-loop μ-loop
+returns-2 c =
+    let all = c .before .loop .inv .1 in
+    sym (at-every _ _ (λ k h. all k (omega arith)))
+
+pub has-digits-spec : {M : Type 1} → statement M
+has-digits-spec =
+    tie.close
+    (tie.spec
+    Inv-loop
+    μ-loop
+    loop-holds
+    add-byte
+    byte-requires
+    is-digit-requires
+    returns
+    add-i
+    loop-less
+    loop-again
+    returns-2)
