@@ -33,8 +33,10 @@ use Rattle.sequencer.specs.declared.main_sequencer.MainStep.{MainStep}
 use Rattle.sequencer.proofs.MainLaws.{step-loads-in-order}
 use Rattle.scalers.specs.Scalers.{isSome}
 use Rattle.core.specs.Lines.{hasStrobe}
-use Rattle.core.specs.Core.{isRunning, pulsedOf, isReadyOf, wordAtOf, latchedOf}
-use Rattle.core.specs.Core.{cycleStepOf, mainStepOf, userStepOf, outcomeOf, settledOf, stepOf}
+use Rattle.core.specs.Effects.{wordAtOf}
+use Rattle.core.specs.Core.{isRunning, pulsedOf, isReadyOf, latchedOf}
+use Rattle.core.specs.Effects.{outcomeOf}
+use Rattle.core.specs.Core.{cycleStepOf, mainStepOf, userStepOf, settledOf, stepOf}
 use Rattle.core.specs.Core.{allowsEightOf, isSoundOf}
 use Rattle.core.specs.declared.lines.Inputs.{Inputs}
 use Rattle.core.specs.declared.Core.{Core}

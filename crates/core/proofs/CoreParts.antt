@@ -37,7 +37,8 @@ use Rattle.sequencer.proofs.MainLaws.{idle-stays, idle-does-not-age, aged-keeps
 use Rattle.sequencer.proofs.MainLaws.{step-loads-in-order}
 use Rattle.sequencer.proofs.MainLaws as sequencer
 use Rattle.scalers.specs.Scalers.{isSome}
-use Rattle.core.specs.Core.{isReadyOf, isOpenOf, latchOf}
+use Rattle.core.specs.Effects.{latchOf}
+use Rattle.core.specs.Core.{isReadyOf, isOpenOf}
 use Rattle.core.specs.Core.{testsOf, cycleStepOf, mainStepOf, userStepOf}
 use Rattle.core.specs.Core.{allowsEightOf, soundnessOf, isSoundOf}
 use Rattle.core.specs.declared.lines.Lines.{Lines}

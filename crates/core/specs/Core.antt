@@ -1,21 +1,19 @@
--- The core: all of the record but the branches, which it sees through two facts. A tick of it: pulses, ready, main, user
--- sync, the CSR's bits, the sync count and the scalers.
+-- The core: all of the record but the branches, which it sees through two facts. A tick of it: pulses, ready, main and user
+-- sync; what their moves change besides is in Effects.
 --     document 01    "The tick"; "When a call is declined", Spoiled; Active
 --     isReadyOf      the ready rule
---     latchOf        what becomes of the passed pulses
 --     mainStepOf, userStepOf   what main and the user sync do
 --     settledOf      the core after all of them, with what the tick reports
 --     stepOf         a tick of the core
 --     resetOf        the core after RESET
 --     soundnessOf    the clauses of the spoiled rule on the core
 -- All tests read the record at the tick's start ([Tick.2]): each part below is a function of that record alone.
--- Own rules of 01 used here: none. Decisions: T1–T4, T6, A2, A4. Left out: nothing.
+-- Own rules of 01 used here: none. Decisions: T1, T2, T4, A2, A4. Left out: nothing.
 -- Assumes nothing.
-use Prim.Native.Nat.{ℕ, _+_, _*_, _%_, _^_}
-use mathlib.Core.Bool.{Bool, true, false, not, _&&_, _||_}
+use Prim.Native.Nat.{ℕ, _+_, _*_, _%_}
+use mathlib.Core.Bool.{Bool, not, _&&_, _||_}
 use mathlib.Core.List.{List, [], _∷_}
 use lib.Dec.{eqb}
-use lib.ListN.{getD}
 use Rattle.bits.specs.Notation.{if_then_else_, _▷_}
 use Rattle.bits.specs.Bits.{oneIfOf, allTrue}
 use Rattle.registers.specs.Csr as csr
@@ -27,24 +25,20 @@ use Rattle.prescaler.specs.declared.Prescaled.{Prescaled}
 use Rattle.timers.specs.Timers as timers
 use Rattle.sync.specs.SyncCounter as counter
 use Rattle.sync.specs.UserSync as user
-use Rattle.sync.specs.declared.counter.SyncCounter.{SyncCounter}
 use Rattle.sync.specs.declared.user.UserStep.{UserStep}
 use Rattle.sequencer.specs.MemoryWord.{isOkWord}
 use Rattle.sequencer.specs.MainFields.{quiet}
-use Rattle.sequencer.specs.States.{isIdle, isLoaded, isEvent}
+use Rattle.sequencer.specs.States.{isIdle, isLoaded}
 use Rattle.sequencer.specs.MainSequencer as main
-use Rattle.sequencer.specs.declared.states.Outcome.{Outcome}
-use Rattle.sequencer.specs.declared.states.Outcome.the-variants.{Tag}
 use Rattle.sequencer.specs.declared.main_sequencer.Tests.{Tests}
 use Rattle.sequencer.specs.declared.main_sequencer.MainStep.{MainStep}
 use Rattle.scalers.specs.Scalers as scalers
-use Rattle.scalers.specs.declared.Signals.{Signals}
 use Rattle.core.specs.Lines.{hasStrobe, hasPass2, hasFail2, hasPass3, hasFail3, hasFrontBusy, hasInhibit}
+use Rattle.core.specs.Effects.{wordAtOf, latchOf, csrAfterOf, syncAfterOf, outcomeOf, signalsOf, masksOf}
 use Rattle.core.specs.declared.lines.Lines.{Lines}
 use Rattle.core.specs.declared.lines.Inputs.{Inputs}
 use Rattle.core.specs.declared.Core.{Core}
 use Rattle.core.specs.declared.Latch.{Latch}
-use Rattle.core.specs.declared.Masks.{Masks}
 use Rattle.core.specs.declared.CoreStep.{CoreStep}
 
 -- ---- fresh, and RESET
@@ -88,7 +82,7 @@ unfoldable pub pulsedOf : Inputs → Core → Prescaled
 pulsedOf x c =
     prescaler.stepOf (isRunning c) (control.countedOf (hasStrobe (x .lines)) (x .triggers) (c .control)) (c .prescalers)
 
--- ---- ready, and what becomes of the passed pulses
+-- ---- ready
 
 -- [Ready.1] inhibit low or overridden
 abbrev pub isUninhibited : Lines → Csr → Bool
@@ -103,20 +97,6 @@ isOpenOf l c =
 -- [Ready.1]
 abbrev pub isReadyOf : Lines → Core → Bool
 isReadyOf l c = isIdle (c .main .state) && isOpenOf l c
-
--- [Memory.1] the word at the place of the pattern
-abbrev pub wordAtOf : List ℕ → (pattern : ℕ) → ℕ
-wordAtOf memory pattern = getD memory pattern 0
-
--- [Ready.2] [Ready.3] [Ready.4] [Ready.5] lost if not ready; else all rejected or all accepted; with none passed nothing
--- is latched: every mask is 0
-abbrev pub latchOf : (ready ok : Bool) (passed : ℕ) → Latch
-latchOf ready ok passed =
-    record {
-      lost = if ready then 0 else passed;
-      rejected = if ready && not ok then passed else 0;
-      accepted = if ready && ok then passed else 0;
-    }
 
 -- ---- main and user sync
 
@@ -152,57 +132,9 @@ mainStepOf room empty l latch word c =
 abbrev pub userStepOf : (empty : Bool) → Core → UserStep
 userStepOf empty c = user.stepOf (csr.wantsUserSync (c .csr)) (isIdle (c .main .state)) empty (c .user)
 
--- ---- what follows from the moves
+-- ---- the core put together again
 
--- [Main.11] [Usersync.1] a word with the sync bit is loaded
-abbrev pub loadsSync : MainStep → UserStep → Bool
-loadsSync m u = m .sync || u .tag
-
--- [Ready.6] [Main.6] [Main.11] status bits 16, 17 and 18
-abbrev pub statusOf : (inhibit late sync : Bool) → ℕ
-statusOf inhibit late sync = oneIfOf inhibit * 2 ^ 16 + oneIfOf late * 2 ^ 17 + oneIfOf sync * 2 ^ 18
-
--- [Main.14] [Usersync.2] what the end of Sync hold and of a user sync clear; then the status bits
-unfoldable pub csrAfterOf : Lines → MainStep → UserStep → Csr → Csr
-csrAfterOf l m u w =
-    w ▷ csr.syncHoldEndedIfOf (m .ended) ▷ csr.userSyncEndedIfOf (u .ended)
-    ▷ csr.markedOf (statusOf (hasInhibit l) (m .late) (loadsSync m u))
-
--- [Main.10] [Main.14] [Usersync.2]
-unfoldable pub syncAfterOf : (enabled : Bool) → MainStep → UserStep → SyncCounter → SyncCounter
-syncAfterOf enabled m u s =
-    if m .ended || u .ended then counter.zeroedOf s
-    else if isEvent (m .outcome) then counter.afterLoadOf enabled s
-    else s
-
--- [Usersync.1] [Answer.1] a tag is loaded only at Idle, where main has no outcome
-abbrev pub outcomeOf : MainStep → UserStep → Outcome
-outcomeOf m u = if u .tag then Tag user.tagWord else m .outcome
-
-abbrev pub signalsOf : (passed : ℕ) → Latch → MainStep → UserStep → Signals
-signalsOf passed latch m u =
-    record {
-      passed = passed;
-      rejected = latch .rejected;
-      accepted = latch .accepted;
-      event = isEvent (m .outcome);
-      failed2 = m .failed2;
-      failed3 = m .failed3;
-      late = m .late;
-      sync = loadsSync m u;
-    }
-
-abbrev pub masksOf : Prescaled → Latch → Masks
-masksOf p latch =
-    record {
-      stopped = p .stopped;
-      scaled = p .scaled;
-      lost = latch .lost;
-      rejected = latch .rejected;
-      accepted = latch .accepted;
-    }
-
--- [Tick.3] the core put together again
+-- [Tick.3]
 unfoldable pub settledOf : Lines → Prescaled → Latch → MainStep → UserStep → Core → CoreStep
 settledOf l p latch m u c =
     record {

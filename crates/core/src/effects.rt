@@ -1,10 +1,9 @@
 // The latch of a tick, and what the steps of main and of the user sync do to the rest of the core (document 01, "The tick").
-// The definitions are in specs/Core.antt.
+// The definitions are in specs/Effects.antt.
 ghost use mathlib.Core.Path.{_≡_};
 ghost use Rattle.sequencer.specs.MemoryWord.{isOkWord};
-ghost use Rattle.core.specs.Core.{wordAtOf};
-ghost use Rattle.core.specs.Core.{latchOf, statusOf, csrAfterOf, syncAfterOf, outcomeOf};
-ghost use Rattle.core.specs.Core.{signalsOf, masksOf};
+ghost use Rattle.core.specs.Effects.{wordAtOf, latchOf, statusOf, csrAfterOf, syncAfterOf, outcomeOf};
+ghost use Rattle.core.specs.Effects.{signalsOf, masksOf};
 use crate::Latch;
 use crate::Masks;
 use crate::lines::Lines;

@@ -30,8 +30,9 @@ use Rattle.sequencer.proofs.MainWellFormed as sequencer
 use Rattle.sequencer.specs.declared.main_sequencer.MainStep.{MainStep}
 use Rattle.scalers.specs.Scalers as scalers
 use Rattle.core.specs.Lines.{hasStrobe}
-use Rattle.core.specs.Core.{freshOf, resetOf, isRunning, pulsedOf, isReadyOf, isOpenOf, wordAtOf, latchOf, latchedOf}
-use Rattle.core.specs.Core.{testsOf, cycleStepOf, mainStepOf, userStepOf, csrAfterOf, syncAfterOf, settledOf, stepOf}
+use Rattle.core.specs.Effects.{wordAtOf, latchOf, csrAfterOf, syncAfterOf}
+use Rattle.core.specs.Core.{freshOf, resetOf, isRunning, pulsedOf, isReadyOf, isOpenOf, latchedOf}
+use Rattle.core.specs.Core.{testsOf, cycleStepOf, mainStepOf, userStepOf, settledOf, stepOf}
 use Rattle.core.proofs.CoreParts.{accepted-is-ready, idle-cycle-is-quiet}
 use Rattle.core.specs.declared.lines.Inputs.{Inputs}
 use Rattle.core.specs.declared.lines.Lines.{Lines}

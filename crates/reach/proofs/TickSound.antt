@@ -35,6 +35,7 @@ use Rattle.sync.specs.SyncCounter as counter
 use Rattle.sync.specs.declared.counter.SyncCounter.{SyncCounter}
 use Rattle.sync.specs.declared.user.UserStep.{UserStep}
 use Rattle.scalers.specs.Scalers as scalers
+use Rattle.core.specs.Effects as effects
 use Rattle.core.specs.Core as core
 use Rattle.core.proofs.CoreParts.{isLoad, accepted-is-ready, main-has-no-tag}
 use Rattle.core.proofs.CoreLaws as coreLaws
@@ -81,7 +82,7 @@ module _ (room empty : Bool) (x : Inputs) (memory : List ℕ) (c : Core) where
   passed = core.pulsedOf x c .passed
 
   abbrev word : ℕ
-  word = core.wordAtOf memory passed
+  word = effects.wordAtOf memory passed
 
   abbrev latch : Latch
   latch = core.latchedOf x memory c
@@ -113,7 +114,7 @@ module _ (room empty : Bool) (x : Inputs) (memory : List ℕ) (c : Core) where
   load-allows-eight = go (core.userStepOf empty c .tag) refl
     where
       go : (tag : Bool) → core.userStepOf empty c .tag ≡ tag
-          → isLoad (core.outcomeOf mainStep (core.userStepOf empty c)) ≡ true
+          → isLoad (effects.outcomeOf mainStep (core.userStepOf empty c)) ≡ true
           → (isLoaded (mainStep .next .state) || core.userStepOf empty c .next .waiting) ≡ true
       go true e h = or-true (isLoaded (mainStep .next .state)) _ (tag-waits e)
       go false e h = by (isEvent (mainStep .outcome)) refl
@@ -162,8 +163,8 @@ module _ (room empty : Bool) (x : Inputs) (memory : List ℕ) (c : Core) where
 -- ---- the tick of the whole record
 
 sync-keeps-interval : (enabled : Bool) (m : MainStep) (w : UserStep) (c : SyncCounter)
-    → core.syncAfterOf enabled m w c .interval ≡ c .interval
-unfolding core.syncAfterOf counter.afterLoadOf
+    → effects.syncAfterOf enabled m w c .interval ≡ c .interval
+unfolding effects.syncAfterOf counter.afterLoadOf
 sync-keeps-interval enabled m w c =
     by-cond (λ (r : SyncCounter). r .interval ≡ c .interval) (m .ended || w .ended) (λ e. refl)
     (λ e.
