@@ -1,8 +1,8 @@
 #!/usr/bin/env python3
 """prove.py CRATE: for each function of the crate that rt dev says needs a file, writes proofs/F/Proof.antt:
 the printed lines, with each `returns` that `search` leaves answered by `rw (what the calls ensure, the tests)`,
-under a header whose first line says WHY in capitals: write the reason there. Answers over 110 columns stand one fact
-to a line (the layout of rt fmt). Run it in the repository's folder; what it writes is checked by rt dev and mended by hand."""
+under a header whose first line says WHY in capitals: write the reason there. What `search` closes stands in its place
+among the needs, without a name. Answers over 110 columns stand one fact to a line (the layout of rt fmt). Run it in the repository's folder; what it writes is checked by rt dev and mended by hand."""
 import sys, re, os, subprocess, glob, tempfile
 
 crate = sys.argv[1]
@@ -132,6 +132,20 @@ def broken(m):
     return m.group(1) + '\n    rw (\n' + ''.join('      %s,\n' % p for p in parts) + '    )'
 
 
+ROUTINE = re.compile(r'(?m)^([a-z0-9-]+) : tie\.Need-\1(?: \S+)*\n\1((?: [^\s=]+)+) = search needs\n\n')
+
+
+def without_routine(s):
+    """The needs that `search needs` closes, put where their names stood."""
+    found = dict(ROUTINE.findall(s))
+    s = ROUTINE.sub('', s)
+    at = s.rindex('tie.spec')
+    needs = s[at:]
+    for name, bound in found.items():
+        needs = re.sub(r'(?<![\w-])%s(?![\w-])' % re.escape(name), '(λ%s. search needs)' % bound, needs, count=1)
+    return s[:at] + needs
+
+
 for f in wrote:
     rel = os.path.relpath(os.path.dirname(os.path.abspath(f)), os.path.abspath(cdir + '/proofs'))
     T = open('%s/Rattle.%s.proofs/proofs/%s/Lts.antt' % (gen, crate, rel)).read()
@@ -161,6 +175,7 @@ for f in wrote:
     s = re.sub(r'(?m)^use \S+ as (reads|lts|\S+-reads)\n', '', s)
     s = re.sub(r'(?m)^-- src/\S+:\d+:\d+\n', '', s)
     s = re.sub(r'(?m)^(returns\S* c =) rw \((.*)\)$', broken, s)
+    s = without_routine(s)
     name = '::'.join([crate] + rel.split('/'))
     s = ('-- `%s` meets its contract: WHY.\n-- Written by tools/prove.py; no answer was changed by hand. Assumes nothing.\n' % name) + s
     open(f, 'w').write(s)

@@ -4,27 +4,6 @@ use borrow.Author.Needs.{needs}
 use Rattle.access.proofs.after_csr.Statement.{statement}
 use Rattle.access.proofs.after_csr.Tie as tie
 
-enum-told : tie.Need-enum-told
-enum-told c = search needs
-
-initialized-requires : tie.Need-initialized-requires
-initialized-requires c κs = search needs
-
-enum-told-2 : tie.Need-enum-told-2
-enum-told-2 c = search needs
-
-with-core-requires : tie.Need-with-core-requires
-with-core-requires c κs = search needs
-
-reset-requires : tie.Need-reset-requires
-reset-requires c κs = search needs
-
-enum-told-3 : tie.Need-enum-told-3
-enum-told-3 c = search needs
-
-with-core-requires-2 : tie.Need-with-core-requires-2
-with-core-requires-2 c κs = search needs
-
 returns : tie.Need-returns
 returns c = rw (c .initialized .ensures, c .before .enum-told .given .1)
 
@@ -38,13 +17,13 @@ pub after-csr-spec : {M : Type 1} → statement M
 after-csr-spec =
     tie.close
     (tie.spec
-    enum-told
-    initialized-requires
-    enum-told-2
-    with-core-requires
-    reset-requires
-    enum-told-3
-    with-core-requires-2
+    (λ c. search needs)
+    (λ c κs. search needs)
+    (λ c. search needs)
+    (λ c κs. search needs)
+    (λ c κs. search needs)
+    (λ c. search needs)
+    (λ c κs. search needs)
     returns
     returns-2
     returns-3)

@@ -5,45 +5,6 @@ use borrow.Author.Needs.{needs}
 use Rattle.access.proofs.core_written.Statement.{statement}
 use Rattle.access.proofs.core_written.Tie as tie
 
-enum-told : tie.Need-enum-told
-enum-told c = search needs
-
-enum-told-2 : tie.Need-enum-told-2
-enum-told-2 c = search needs
-
-enum-known-register : tie.Need-enum-known-register
-enum-known-register c = search needs
-
-with-factor-requires : tie.Need-with-factor-requires
-with-factor-requires c κs = search needs
-
-enum-told-3 : tie.Need-enum-told-3
-enum-told-3 c = search needs
-
-enum-told-4 : tie.Need-enum-told-4
-enum-told-4 c = search needs
-
-cast-t16 : tie.Need-cast-t16
-cast-t16 c = search needs
-
-enum-known-register-2 : tie.Need-enum-known-register-2
-enum-known-register-2 c = search needs
-
-written-requires : tie.Need-written-requires
-written-requires c κs = search needs
-
-enum-known-register-3 : tie.Need-enum-known-register-3
-enum-known-register-3 c = search needs
-
-zeroed-requires : tie.Need-zeroed-requires
-zeroed-requires c κs = search needs
-
-enum-told-5 : tie.Need-enum-told-5
-enum-told-5 c = search needs
-
-enum-told-6 : tie.Need-enum-told-6
-enum-told-6 c = search needs
-
 returns : tie.Need-returns
 unfolding coreWrittenOf
 returns c = rw (c .enum-told .given .1)
@@ -84,19 +45,19 @@ pub core-written-spec : {M : Type 1} → statement M
 core-written-spec =
     tie.close
     (tie.spec
-    enum-told
-    enum-told-2
-    enum-known-register
-    with-factor-requires
-    enum-told-3
-    enum-told-4
-    cast-t16
-    enum-known-register-2
-    written-requires
-    enum-known-register-3
-    zeroed-requires
-    enum-told-5
-    enum-told-6
+    (λ c. search needs)
+    (λ c. search needs)
+    (λ c. search needs)
+    (λ c κs. search needs)
+    (λ c. search needs)
+    (λ c. search needs)
+    (λ c. search needs)
+    (λ c. search needs)
+    (λ c κs. search needs)
+    (λ c. search needs)
+    (λ c κs. search needs)
+    (λ c. search needs)
+    (λ c. search needs)
     returns
     returns-2
     returns-3

@@ -5,15 +5,9 @@ use borrow.Author.Needs.{needs}
 use Rattle.access.proofs.csr_written.Statement.{statement}
 use Rattle.access.proofs.csr_written.Tie as tie
 
-written-requires : tie.Need-written-requires
-written-requires c κs = search needs
-
-after-csr-requires : tie.Need-after-csr-requires
-after-csr-requires c κs = search needs
-
 returns : tie.Need-returns
 unfolding csrWrittenOf
 returns c = rw (c .after-csr .ensures, c .before .written .ensures)
 
 pub csr-written-spec : {M : Type 1} → statement M
-csr-written-spec = tie.close (tie.spec written-requires after-csr-requires returns)
+csr-written-spec = tie.close (tie.spec (λ c κs. search needs) (λ c κs. search needs) returns)

@@ -5,75 +5,6 @@ use borrow.Author.Needs.{needs}
 use Rattle.access.proofs.written.Statement.{statement}
 use Rattle.access.proofs.written.Tie as tie
 
-enum-told : tie.Need-enum-told
-enum-told c = search needs
-
-csr-written-requires : tie.Need-csr-written-requires
-csr-written-requires c κs = search needs
-
-enum-told-2 : tie.Need-enum-told-2
-enum-told-2 c = search needs
-
-core-written-requires : tie.Need-core-written-requires
-core-written-requires c κs = search needs
-
-with-core-requires : tie.Need-with-core-requires
-with-core-requires c κs = search needs
-
-enum-told-3 : tie.Need-enum-told-3
-enum-told-3 c = search needs
-
-core-written-requires-2 : tie.Need-core-written-requires-2
-core-written-requires-2 c κs = search needs
-
-with-core-requires-2 : tie.Need-with-core-requires-2
-with-core-requires-2 c κs = search needs
-
-enum-told-4 : tie.Need-enum-told-4
-enum-told-4 c = search needs
-
-roc-written-requires : tie.Need-roc-written-requires
-roc-written-requires c κs = search needs
-
-enum-told-5 : tie.Need-enum-told-5
-enum-told-5 c = search needs
-
-core-written-requires-3 : tie.Need-core-written-requires-3
-core-written-requires-3 c κs = search needs
-
-with-core-requires-3 : tie.Need-with-core-requires-3
-with-core-requires-3 c κs = search needs
-
-enum-told-6 : tie.Need-enum-told-6
-enum-told-6 c = search needs
-
-core-written-requires-4 : tie.Need-core-written-requires-4
-core-written-requires-4 c κs = search needs
-
-with-core-requires-4 : tie.Need-with-core-requires-4
-with-core-requires-4 c κs = search needs
-
-enum-told-7 : tie.Need-enum-told-7
-enum-told-7 c = search needs
-
-core-written-requires-5 : tie.Need-core-written-requires-5
-core-written-requires-5 c κs = search needs
-
-with-core-requires-5 : tie.Need-with-core-requires-5
-with-core-requires-5 c κs = search needs
-
-enum-told-8 : tie.Need-enum-told-8
-enum-told-8 c = search needs
-
-core-written-requires-6 : tie.Need-core-written-requires-6
-core-written-requires-6 c κs = search needs
-
-with-core-requires-6 : tie.Need-with-core-requires-6
-with-core-requires-6 c κs = search needs
-
-enum-told-9 : tie.Need-enum-told-9
-enum-told-9 c = search needs
-
 returns : tie.Need-returns
 unfolding writtenOf
 returns c = rw (c .csr-written .ensures, c .before .enum-told .given .1)
@@ -144,29 +75,29 @@ pub written-spec : {M : Type 1} → statement M
 written-spec =
     tie.close
     (tie.spec
-    enum-told
-    csr-written-requires
-    enum-told-2
-    core-written-requires
-    with-core-requires
-    enum-told-3
-    core-written-requires-2
-    with-core-requires-2
-    enum-told-4
-    roc-written-requires
-    enum-told-5
-    core-written-requires-3
-    with-core-requires-3
-    enum-told-6
-    core-written-requires-4
-    with-core-requires-4
-    enum-told-7
-    core-written-requires-5
-    with-core-requires-5
-    enum-told-8
-    core-written-requires-6
-    with-core-requires-6
-    enum-told-9
+    (λ c. search needs)
+    (λ c κs. search needs)
+    (λ c. search needs)
+    (λ c κs. search needs)
+    (λ c κs. search needs)
+    (λ c. search needs)
+    (λ c κs. search needs)
+    (λ c κs. search needs)
+    (λ c. search needs)
+    (λ c κs. search needs)
+    (λ c. search needs)
+    (λ c κs. search needs)
+    (λ c κs. search needs)
+    (λ c. search needs)
+    (λ c κs. search needs)
+    (λ c κs. search needs)
+    (λ c. search needs)
+    (λ c κs. search needs)
+    (λ c κs. search needs)
+    (λ c. search needs)
+    (λ c κs. search needs)
+    (λ c κs. search needs)
+    (λ c. search needs)
     returns
     returns-2
     returns-3

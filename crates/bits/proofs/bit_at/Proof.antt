@@ -8,16 +8,10 @@ use Rattle.bits.proofs.WidthLaws.{fits-iff-no-bit-outside}
 use Rattle.bits.proofs.bit_at.Statement.{statement}
 use Rattle.bits.proofs.bit_at.Tie as tie
 
-shr-result : tie.Need-shr-result
-shr-result c = search needs
-
-returns : tie.Need-returns
-returns c = search needs
-
 returns-2 : tie.Need-returns-2
 returns-2 c =
     let word : _ = c .before .args .word in
     sym (fits-iff-no-bit-outside 32 word .0 (lt-ltb word (2 ^ 32) (search needs)) (c .before .args .i) (c .if1 .left))
 
 pub bit-at-spec : {M : Type 1} → statement M
-bit-at-spec = tie.close (tie.spec shr-result returns returns-2)
+bit-at-spec = tie.close (tie.spec (λ c. search needs) (λ c. search needs) returns-2)

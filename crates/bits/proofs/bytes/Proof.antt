@@ -6,21 +6,9 @@ use borrow.Author.Needs.{needs}
 use Rattle.bits.proofs.bytes.Statement.{statement}
 use Rattle.bits.proofs.bytes.Tie as tie
 
-cast-t4 : tie.Need-cast-t4
-cast-t4 c = search needs
-
-cast-t7 : tie.Need-cast-t7
-cast-t7 c = search needs
-
-cast-t10 : tie.Need-cast-t10
-cast-t10 c = search needs
-
-cast-t13 : tie.Need-cast-t13
-cast-t13 c = search needs
-
 returns : tie.Need-returns
 unfolding tabulate
 returns c = refl
 
 pub bytes-spec : {M : Type 1} → statement M
-bytes-spec = tie.close (tie.spec cast-t4 cast-t7 cast-t10 cast-t13 returns)
+bytes-spec = tie.close (tie.spec (λ c. search needs) (λ c. search needs) (λ c. search needs) (λ c. search needs) returns)

@@ -5,18 +5,6 @@ use borrow.Author.Needs.{needs}
 use Rattle.branches.proofs.gathered.Statement.{statement}
 use Rattle.branches.proofs.gathered.Tie as tie
 
-side-after-requires : tie.Need-side-after-requires
-side-after-requires c κs = search needs
-
-side-after-requires-2 : tie.Need-side-after-requires-2
-side-after-requires-2 c κs = search needs
-
-side-after-requires-3 : tie.Need-side-after-requires-3
-side-after-requires-3 c κs = search needs
-
-side-after-requires-4 : tie.Need-side-after-requires-4
-side-after-requires-4 c κs = search needs
-
 returns : tie.Need-returns
 unfolding gatheredOf
 returns c =
@@ -31,8 +19,8 @@ pub gathered-spec : {M : Type 1} → statement M
 gathered-spec =
     tie.close
     (tie.spec
-    side-after-requires
-    side-after-requires-2
-    side-after-requires-3
-    side-after-requires-4
+    (λ c κs. search needs)
+    (λ c κs. search needs)
+    (λ c κs. search needs)
+    (λ c κs. search needs)
     returns)

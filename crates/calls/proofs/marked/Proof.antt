@@ -5,15 +5,9 @@ use borrow.Author.Needs.{needs}
 use Rattle.calls.proofs.marked.Statement.{statement}
 use Rattle.calls.proofs.marked.Tie as tie
 
-marked-requires : tie.Need-marked-requires
-marked-requires c κs = search needs
-
-with-core-requires : tie.Need-with-core-requires
-with-core-requires c κs = search needs
-
 returns : tie.Need-returns
 unfolding markedOf
 returns c = rw (c .with-core .ensures, c .before .marked .ensures)
 
 pub marked-spec : {M : Type 1} → statement M
-marked-spec = tie.close (tie.spec marked-requires with-core-requires returns)
+marked-spec = tie.close (tie.spec (λ c κs. search needs) (λ c κs. search needs) returns)

@@ -6,18 +6,9 @@ use borrow.Author.Needs.{needs}
 use Rattle.calls.proofs.read_memory.Statement.{statement}
 use Rattle.calls.proofs.read_memory.Tie as tie
 
-is-spoiled-requires : tie.Need-is-spoiled-requires
-is-spoiled-requires c κs = search needs
-
-refused-read-requires : tie.Need-refused-read-requires
-refused-read-requires c κs = search needs
-
 returns : tie.Need-returns
 unfolding readMemoryOf
 returns c = rw (c .refused-read .ensures, ← c .before .before .is-spoiled .ensures, c .before .if1 .taken)
-
-refused-read-requires-2 : tie.Need-refused-read-requires-2
-refused-read-requires-2 c κs = search needs
 
 returns-2 : tie.Need-returns-2
 unfolding readMemoryOf
@@ -29,9 +20,6 @@ returns-2 c =
       c .before .before .if1 .left,
     )
 
-refused-read-requires-3 : tie.Need-refused-read-requires-3
-refused-read-requires-3 c κs = search needs
-
 returns-3 : tie.Need-returns-3
 unfolding readMemoryOf
 returns-3 c =
@@ -42,15 +30,6 @@ returns-3 c =
       ← c .before .before .before .before .is-spoiled .ensures,
       c .before .before .before .if1 .left,
     )
-
-is-active-requires : tie.Need-is-active-requires
-is-active-requires c κs = search needs
-
-marked-requires : tie.Need-marked-requires
-marked-requires c κs = search needs
-
-refused-read-requires-4 : tie.Need-refused-read-requires-4
-refused-read-requires-4 c κs = search needs
 
 returns-4 : tie.Need-returns-4
 unfolding readMemoryOf
@@ -65,15 +44,6 @@ returns-4 c =
       ← c .before .before .before .before .before .before .before .is-spoiled .ensures,
       c .before .before .before .before .before .before .if1 .left,
     )
-
-mul-wide : tie.Need-mul-wide
-mul-wide c = search needs
-
-shared-slice-read-wide : tie.Need-shared-slice-read-wide
-shared-slice-read-wide c = search needs
-
-wide-requires : tie.Need-wide-requires
-wide-requires c κs = search needs
 
 returns-5 : tie.Need-returns-5
 unfolding readMemoryOf
@@ -92,18 +62,18 @@ pub read-memory-spec : {M : Type 1} → statement M
 read-memory-spec =
     tie.close
     (tie.spec
-    is-spoiled-requires
-    refused-read-requires
+    (λ c κs. search needs)
+    (λ c κs. search needs)
     returns
-    refused-read-requires-2
+    (λ c κs. search needs)
     returns-2
-    refused-read-requires-3
+    (λ c κs. search needs)
     returns-3
-    is-active-requires
-    marked-requires
-    refused-read-requires-4
+    (λ c κs. search needs)
+    (λ c κs. search needs)
+    (λ c κs. search needs)
     returns-4
-    mul-wide
-    shared-slice-read-wide
-    wide-requires
+    (λ c. search needs)
+    (λ c. search needs)
+    (λ c κs. search needs)
     returns-5)

@@ -6,18 +6,9 @@ use borrow.Author.Needs.{needs}
 use Rattle.calls.proofs.read_register.Statement.{statement}
 use Rattle.calls.proofs.read_register.Tie as tie
 
-is-spoiled-requires : tie.Need-is-spoiled-requires
-is-spoiled-requires c κs = search needs
-
-refused-read-requires : tie.Need-refused-read-requires
-refused-read-requires c κs = search needs
-
 returns : tie.Need-returns
 unfolding readRegisterOf
 returns c = rw (c .refused-read .ensures, ← c .before .before .is-spoiled .ensures, c .before .if1 .taken)
-
-refused-read-requires-2 : tie.Need-refused-read-requires-2
-refused-read-requires-2 c κs = search needs
 
 returns-2 : tie.Need-returns-2
 unfolding readRegisterOf
@@ -28,12 +19,6 @@ returns-2 c =
       ← c .before .before .before .is-spoiled .ensures,
       c .before .before .if1 .left,
     )
-
-numbered-requires : tie.Need-numbered-requires
-numbered-requires c κs = search needs
-
-stored-requires : tie.Need-stored-requires
-stored-requires c κs = search needs
 
 returns-3 : tie.Need-returns-3
 unfolding readRegisterOf
@@ -50,11 +35,11 @@ pub read-register-spec : {M : Type 1} → statement M
 read-register-spec =
     tie.close
     (tie.spec
-    is-spoiled-requires
-    refused-read-requires
+    (λ c κs. search needs)
+    (λ c κs. search needs)
     returns
-    refused-read-requires-2
+    (λ c κs. search needs)
     returns-2
-    numbered-requires
-    stored-requires
+    (λ c κs. search needs)
+    (λ c κs. search needs)
     returns-3)

@@ -6,18 +6,9 @@ use borrow.Author.Needs.{needs}
 use Rattle.calls.proofs.tick.Statement.{statement}
 use Rattle.calls.proofs.tick.Tie as tie
 
-is-spoiled-requires : tie.Need-is-spoiled-requires
-is-spoiled-requires c κs = search needs
-
-refused-tick-requires : tie.Need-refused-tick-requires
-refused-tick-requires c κs = search needs
-
 returns : tie.Need-returns
 unfolding tickOf
 returns c = rw (c .refused-tick .ensures, ← c .before .before .is-spoiled .ensures, c .before .if1 .taken)
-
-refused-tick-requires-2 : tie.Need-refused-tick-requires-2
-refused-tick-requires-2 c κs = search needs
 
 returns-2 : tie.Need-returns-2
 unfolding tickOf
@@ -29,9 +20,6 @@ returns-2 c =
       c .before .before .if1 .left,
     )
 
-refused-tick-requires-3 : tie.Need-refused-tick-requires-3
-refused-tick-requires-3 c κs = search needs
-
 returns-3 : tie.Need-returns-3
 unfolding tickOf
 returns-3 c =
@@ -42,9 +30,6 @@ returns-3 c =
       ← c .before .before .before .before .before .before .before .is-spoiled .ensures,
       c .before .before .before .before .before .before .if1 .left,
     )
-
-ticked-requires : tie.Need-ticked-requires
-ticked-requires c κs = search needs
 
 returns-4 : tie.Need-returns-4
 unfolding tickOf
@@ -61,12 +46,12 @@ pub tick-spec : {M : Type 1} → statement M
 tick-spec =
     tie.close
     (tie.spec
-    is-spoiled-requires
-    refused-tick-requires
+    (λ c κs. search needs)
+    (λ c κs. search needs)
     returns
-    refused-tick-requires-2
+    (λ c κs. search needs)
     returns-2
-    refused-tick-requires-3
+    (λ c κs. search needs)
     returns-3
-    ticked-requires
+    (λ c κs. search needs)
     returns-4)

@@ -6,12 +6,6 @@ use borrow.Author.Needs.{needs}
 use Rattle.calls.proofs.write_memory.Statement.{statement}
 use Rattle.calls.proofs.write_memory.Tie as tie
 
-is-spoiled-requires : tie.Need-is-spoiled-requires
-is-spoiled-requires c κs = search needs
-
-refused-requires : tie.Need-refused-requires
-refused-requires c κs = search needs
-
 returns : tie.Need-returns
 unfolding writeMemoryOf memoryAfterOf
 returns c = (
@@ -25,9 +19,6 @@ returns c = (
     c .before .if1 .taken,
   ),
 )
-
-refused-requires-2 : tie.Need-refused-requires-2
-refused-requires-2 c κs = search needs
 
 returns-2 : tie.Need-returns-2
 unfolding writeMemoryOf memoryAfterOf
@@ -44,9 +35,6 @@ returns-2 c = (
     c .before .before .if1 .left,
   ),
 )
-
-refused-requires-3 : tie.Need-refused-requires-3
-refused-requires-3 c κs = search needs
 
 returns-3 : tie.Need-returns-3
 unfolding writeMemoryOf memoryAfterOf
@@ -65,15 +53,6 @@ returns-3 c = (
     c .before .before .before .if1 .left,
   ),
 )
-
-is-active-requires : tie.Need-is-active-requires
-is-active-requires c κs = search needs
-
-marked-requires : tie.Need-marked-requires
-marked-requires c κs = search needs
-
-refused-requires-4 : tie.Need-refused-requires-4
-refused-requires-4 c κs = search needs
 
 returns-4 : tie.Need-returns-4
 unfolding writeMemoryOf memoryAfterOf
@@ -97,15 +76,6 @@ returns-4 c = (
     c .before .before .before .before .before .before .if1 .left,
   ),
 )
-
-mul-memory : tie.Need-mul-memory
-mul-memory c = search needs
-
-slice-write-memory : tie.Need-slice-write-memory
-slice-write-memory c = search needs
-
-same-length : tie.Need-same-length
-same-length c = search needs
 
 returns-5 : tie.Need-returns-5
 unfolding writeMemoryOf memoryAfterOf
@@ -132,18 +102,18 @@ pub write-memory-spec : {M : Type 1} → statement M
 write-memory-spec =
     tie.close
     (tie.spec
-    is-spoiled-requires
-    refused-requires
+    (λ c κs. search needs)
+    (λ c κs. search needs)
     returns
-    refused-requires-2
+    (λ c κs. search needs)
     returns-2
-    refused-requires-3
+    (λ c κs. search needs)
     returns-3
-    is-active-requires
-    marked-requires
-    refused-requires-4
+    (λ c κs. search needs)
+    (λ c κs. search needs)
+    (λ c κs. search needs)
     returns-4
-    mul-memory
-    slice-write-memory
-    same-length
+    (λ c. search needs)
+    (λ c. search needs)
+    (λ c. search needs)
     returns-5)

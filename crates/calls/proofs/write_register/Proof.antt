@@ -6,18 +6,9 @@ use borrow.Author.Needs.{needs}
 use Rattle.calls.proofs.write_register.Statement.{statement}
 use Rattle.calls.proofs.write_register.Tie as tie
 
-is-spoiled-requires : tie.Need-is-spoiled-requires
-is-spoiled-requires c κs = search needs
-
-refused-requires : tie.Need-refused-requires
-refused-requires c κs = search needs
-
 returns : tie.Need-returns
 unfolding writeRegisterOf
 returns c = rw (c .refused .ensures, ← c .before .before .is-spoiled .ensures, c .before .if1 .taken)
-
-refused-requires-2 : tie.Need-refused-requires-2
-refused-requires-2 c κs = search needs
 
 returns-2 : tie.Need-returns-2
 unfolding writeRegisterOf
@@ -28,15 +19,6 @@ returns-2 c =
       ← c .before .before .before .is-spoiled .ensures,
       c .before .before .if1 .left,
     )
-
-is-active-requires : tie.Need-is-active-requires
-is-active-requires c κs = search needs
-
-marked-requires : tie.Need-marked-requires
-marked-requires c κs = search needs
-
-refused-requires-3 : tie.Need-refused-requires-3
-refused-requires-3 c κs = search needs
 
 returns-3 : tie.Need-returns-3
 unfolding writeRegisterOf
@@ -50,15 +32,6 @@ returns-3 c =
       ← c .before .before .before .before .before .before .is-spoiled .ensures,
       c .before .before .before .before .before .if1 .left,
     )
-
-numbered-requires : tie.Need-numbered-requires
-numbered-requires c κs = search needs
-
-is-valid-value-requires : tie.Need-is-valid-value-requires
-is-valid-value-requires c κs = search needs
-
-refused-requires-4 : tie.Need-refused-requires-4
-refused-requires-4 c κs = search needs
 
 returns-4 : tie.Need-returns-4
 unfolding writeRegisterOf
@@ -74,9 +47,6 @@ returns-4 c =
       ← c .before .before .before .before .before .before .before .before .is-spoiled .ensures,
       c .before .before .before .before .before .before .before .if1 .left,
     )
-
-written-requires : tie.Need-written-requires
-written-requires c κs = search needs
 
 returns-5 : tie.Need-returns-5
 unfolding writeRegisterOf
@@ -97,18 +67,18 @@ pub write-register-spec : {M : Type 1} → statement M
 write-register-spec =
     tie.close
     (tie.spec
-    is-spoiled-requires
-    refused-requires
+    (λ c κs. search needs)
+    (λ c κs. search needs)
     returns
-    refused-requires-2
+    (λ c κs. search needs)
     returns-2
-    is-active-requires
-    marked-requires
-    refused-requires-3
+    (λ c κs. search needs)
+    (λ c κs. search needs)
+    (λ c κs. search needs)
     returns-3
-    numbered-requires
-    is-valid-value-requires
-    refused-requires-4
+    (λ c κs. search needs)
+    (λ c κs. search needs)
+    (λ c κs. search needs)
     returns-4
-    written-requires
+    (λ c κs. search needs)
     returns-5)

@@ -7,9 +7,6 @@ use borrow.Author.Needs.{needs}
 use Rattle.prescaler.proofs.pulse.Statement.{statement}
 use Rattle.prescaler.proofs.pulse.Tie as tie
 
-sub-less : tie.Need-sub-less
-sub-less c = search needs
-
 returns : tie.Need-returns
 unfolding pulseOf
 returns c = rw (ne-eqb (c .before .before .args .counter) 0 (λ e. omega arith), c .before .if1 .taken)
@@ -23,4 +20,4 @@ unfolding pulseOf
 returns-3 c = rw (c .if1 .left)
 
 pub pulse-spec : {M : Type 1} → statement M
-pulse-spec = tie.close (tie.spec sub-less returns returns-2 returns-3)
+pulse-spec = tie.close (tie.spec (λ c. search needs) returns returns-2 returns-3)

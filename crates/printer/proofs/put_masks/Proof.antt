@@ -7,24 +7,6 @@ use borrow.Author.Needs.{needs}
 use Rattle.printer.proofs.put_masks.Statement.{statement}
 use Rattle.printer.proofs.put_masks.Tie as tie
 
-put-mask-requires : tie.Need-put-mask-requires
-put-mask-requires c κs = search needs
-
-put-mask-requires-2 : tie.Need-put-mask-requires-2
-put-mask-requires-2 c κs = search needs
-
-put-mask-requires-3 : tie.Need-put-mask-requires-3
-put-mask-requires-3 c κs = search needs
-
-put-mask-requires-4 : tie.Need-put-mask-requires-4
-put-mask-requires-4 c κs = search needs
-
-put-mask-requires-5 : tie.Need-put-mask-requires-5
-put-mask-requires-5 c κs = search needs
-
-same-length : tie.Need-same-length
-same-length c = search needs
-
 returns : tie.Need-returns
 unfolding masksPart
 returns c =
@@ -41,10 +23,10 @@ pub put-masks-spec : {M : Type 1} → statement M
 put-masks-spec =
     tie.close
     (tie.spec
-    put-mask-requires
-    put-mask-requires-2
-    put-mask-requires-3
-    put-mask-requires-4
-    put-mask-requires-5
-    same-length
+    (λ c κs. search needs)
+    (λ c κs. search needs)
+    (λ c κs. search needs)
+    (λ c κs. search needs)
+    (λ c κs. search needs)
+    (λ c. search needs)
     returns)

@@ -6,15 +6,6 @@ use borrow.Author.Needs.{needs}
 use Rattle.printer.proofs.put_part.Statement.{statement}
 use Rattle.printer.proofs.put_part.Tie as tie
 
-put-requires : tie.Need-put-requires
-put-requires c κs = search needs
-
-put-slot-requires : tie.Need-put-slot-requires
-put-slot-requires c κs = search needs
-
-same-length : tie.Need-same-length
-same-length c = search needs
-
 returns : tie.Need-returns
 unfolding slotPart write
 returns c =
@@ -24,4 +15,4 @@ returns c =
     )
 
 pub put-part-spec : {M : Type 1} → statement M
-put-part-spec = tie.close (tie.spec put-requires put-slot-requires same-length returns)
+put-part-spec = tie.close (tie.spec (λ c κs. search needs) (λ c κs. search needs) (λ c. search needs) returns)

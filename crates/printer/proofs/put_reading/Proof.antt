@@ -5,24 +5,6 @@ use borrow.Author.Needs.{needs}
 use Rattle.printer.proofs.put_reading.Statement.{statement}
 use Rattle.printer.proofs.put_reading.Tie as tie
 
-enum-known-answer : tie.Need-enum-known-answer
-enum-known-answer c = search needs
-
-put-value-requires : tie.Need-put-value-requires
-put-value-requires c κs = search needs
-
-enum-known-answer-2 : tie.Need-enum-known-answer-2
-enum-known-answer-2 c = search needs
-
-number-of-requires : tie.Need-number-of-requires
-number-of-requires c κs = search needs
-
-put-no-requires : tie.Need-put-no-requires
-put-no-requires c κs = search needs
-
-same-length : tie.Need-same-length
-same-length c = search needs
-
 returns : tie.Need-returns
 unfolding write
 returns c =
@@ -30,9 +12,6 @@ returns c =
       c .before .before .put-value .ensures,
       c .before .before .before .before .before .answer .given .1,
     )
-
-same-length-2 : tie.Need-same-length-2
-same-length-2 c = search needs
 
 returns-2 : tie.Need-returns-2
 unfolding write
@@ -47,12 +26,12 @@ pub put-reading-spec : {M : Type 1} → statement M
 put-reading-spec =
     tie.close
     (tie.spec
-    enum-known-answer
-    put-value-requires
-    enum-known-answer-2
-    number-of-requires
-    put-no-requires
-    same-length
+    (λ c. search needs)
+    (λ c κs. search needs)
+    (λ c. search needs)
+    (λ c κs. search needs)
+    (λ c κs. search needs)
+    (λ c. search needs)
     returns
-    same-length-2
+    (λ c. search needs)
     returns-2)

@@ -7,45 +7,6 @@ use borrow.Author.Needs.{needs}
 use Rattle.printer.proofs.put_sides.Statement.{statement}
 use Rattle.printer.proofs.put_sides.Tie as tie
 
-array-copy-out-slot-of : tie.Need-array-copy-out-slot-of
-array-copy-out-slot-of c = search needs
-
-slot-of-requires : tie.Need-slot-of-requires
-slot-of-requires c κs = search needs
-
-put-part-requires : tie.Need-put-part-requires
-put-part-requires c κs = search needs
-
-array-copy-out-slot-of-2 : tie.Need-array-copy-out-slot-of-2
-array-copy-out-slot-of-2 c = search needs
-
-slot-of-requires-2 : tie.Need-slot-of-requires-2
-slot-of-requires-2 c κs = search needs
-
-put-part-requires-2 : tie.Need-put-part-requires-2
-put-part-requires-2 c κs = search needs
-
-array-copy-out-slot-of-3 : tie.Need-array-copy-out-slot-of-3
-array-copy-out-slot-of-3 c = search needs
-
-slot-of-requires-3 : tie.Need-slot-of-requires-3
-slot-of-requires-3 c κs = search needs
-
-put-part-requires-3 : tie.Need-put-part-requires-3
-put-part-requires-3 c κs = search needs
-
-array-copy-out-slot-of-4 : tie.Need-array-copy-out-slot-of-4
-array-copy-out-slot-of-4 c = search needs
-
-slot-of-requires-4 : tie.Need-slot-of-requires-4
-slot-of-requires-4 c κs = search needs
-
-put-part-requires-4 : tie.Need-put-part-requires-4
-put-part-requires-4 c κs = search needs
-
-same-length : tie.Need-same-length
-same-length c = search needs
-
 returns : tie.Need-returns
 unfolding sidesPart
 returns c =
@@ -65,17 +26,17 @@ pub put-sides-spec : {M : Type 1} → statement M
 put-sides-spec =
     tie.close
     (tie.spec
-    array-copy-out-slot-of
-    slot-of-requires
-    put-part-requires
-    array-copy-out-slot-of-2
-    slot-of-requires-2
-    put-part-requires-2
-    array-copy-out-slot-of-3
-    slot-of-requires-3
-    put-part-requires-3
-    array-copy-out-slot-of-4
-    slot-of-requires-4
-    put-part-requires-4
-    same-length
+    (λ c. search needs)
+    (λ c κs. search needs)
+    (λ c κs. search needs)
+    (λ c. search needs)
+    (λ c κs. search needs)
+    (λ c κs. search needs)
+    (λ c. search needs)
+    (λ c κs. search needs)
+    (λ c κs. search needs)
+    (λ c. search needs)
+    (λ c κs. search needs)
+    (λ c κs. search needs)
+    (λ c. search needs)
     returns)

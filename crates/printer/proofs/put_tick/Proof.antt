@@ -5,24 +5,6 @@ use borrow.Author.Needs.{needs}
 use Rattle.printer.proofs.put_tick.Statement.{statement}
 use Rattle.printer.proofs.put_tick.Tie as tie
 
-enum-told : tie.Need-enum-told
-enum-told c = search needs
-
-put-answer-requires : tie.Need-put-answer-requires
-put-answer-requires c κs = search needs
-
-enum-known-verdict : tie.Need-enum-known-verdict
-enum-known-verdict c = search needs
-
-number-of-requires : tie.Need-number-of-requires
-number-of-requires c κs = search needs
-
-put-no-requires : tie.Need-put-no-requires
-put-no-requires c κs = search needs
-
-same-length : tie.Need-same-length
-same-length c = search needs
-
 returns : tie.Need-returns
 unfolding write
 returns c =
@@ -30,9 +12,6 @@ returns c =
       c .before .before .put-answer .ensures,
       c .before .before .before .before .enum-told .given .1,
     )
-
-same-length-2 : tie.Need-same-length-2
-same-length-2 c = search needs
 
 returns-2 : tie.Need-returns-2
 unfolding write
@@ -47,12 +26,12 @@ pub put-tick-spec : {M : Type 1} → statement M
 put-tick-spec =
     tie.close
     (tie.spec
-    enum-told
-    put-answer-requires
-    enum-known-verdict
-    number-of-requires
-    put-no-requires
-    same-length
+    (λ c. search needs)
+    (λ c κs. search needs)
+    (λ c. search needs)
+    (λ c κs. search needs)
+    (λ c κs. search needs)
+    (λ c. search needs)
     returns
-    same-length-2
+    (λ c. search needs)
     returns-2)

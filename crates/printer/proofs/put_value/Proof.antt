@@ -6,15 +6,6 @@ use borrow.Author.Needs.{needs}
 use Rattle.printer.proofs.put_value.Statement.{statement}
 use Rattle.printer.proofs.put_value.Tie as tie
 
-put-hex-requires : tie.Need-put-hex-requires
-put-hex-requires c κs = search needs
-
-put-requires : tie.Need-put-requires
-put-requires c κs = search needs
-
-same-length : tie.Need-same-length
-same-length c = search needs
-
 returns : tie.Need-returns
 unfolding write
 returns c =
@@ -25,4 +16,4 @@ returns c =
     )
 
 pub put-value-spec : {M : Type 1} → statement M
-put-value-spec = tie.close (tie.spec put-hex-requires put-requires same-length returns)
+put-value-spec = tie.close (tie.spec (λ c κs. search needs) (λ c κs. search needs) (λ c. search needs) returns)

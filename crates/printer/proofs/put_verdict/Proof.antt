@@ -5,30 +5,9 @@ use borrow.Author.Needs.{needs}
 use Rattle.printer.proofs.put_verdict.Statement.{statement}
 use Rattle.printer.proofs.put_verdict.Tie as tie
 
-enum-told : tie.Need-enum-told
-enum-told c = search needs
-
-put-ok-requires : tie.Need-put-ok-requires
-put-ok-requires c κs = search needs
-
-enum-known-answer : tie.Need-enum-known-answer
-enum-known-answer c = search needs
-
-number-of-requires : tie.Need-number-of-requires
-number-of-requires c κs = search needs
-
-put-no-requires : tie.Need-put-no-requires
-put-no-requires c κs = search needs
-
-same-length : tie.Need-same-length
-same-length c = search needs
-
 returns : tie.Need-returns
 unfolding write
 returns c = rw (c .before .before .put-ok .ensures, c .before .before .before .before .enum-told .given .1)
-
-same-length-2 : tie.Need-same-length-2
-same-length-2 c = search needs
 
 returns-2 : tie.Need-returns-2
 unfolding write
@@ -43,12 +22,12 @@ pub put-verdict-spec : {M : Type 1} → statement M
 put-verdict-spec =
     tie.close
     (tie.spec
-    enum-told
-    put-ok-requires
-    enum-known-answer
-    number-of-requires
-    put-no-requires
-    same-length
+    (λ c. search needs)
+    (λ c κs. search needs)
+    (λ c. search needs)
+    (λ c κs. search needs)
+    (λ c κs. search needs)
+    (λ c. search needs)
     returns
-    same-length-2
+    (λ c. search needs)
     returns-2)

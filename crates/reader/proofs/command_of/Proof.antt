@@ -5,15 +5,6 @@ use borrow.Author.Needs.{needs}
 use Rattle.reader.proofs.command_of.Statement.{statement}
 use Rattle.reader.proofs.command_of.Tie as tie
 
-is-write-register-requires : tie.Need-is-write-register-requires
-is-write-register-requires c κs = search needs
-
-number-at-requires : tie.Need-number-at-requires
-number-at-requires c κs = search needs
-
-number-at-requires-2 : tie.Need-number-at-requires-2
-number-at-requires-2 c κs = search needs
-
 returns : tie.Need-returns
 unfolding commandOf
 returns c =
@@ -23,12 +14,6 @@ returns c =
       ← c .before .before .before .is-write-register .ensures,
       c .before .before .if1 .taken,
     )
-
-is-read-register-requires : tie.Need-is-read-register-requires
-is-read-register-requires c κs = search needs
-
-number-at-requires-3 : tie.Need-number-at-requires-3
-number-at-requires-3 c κs = search needs
 
 returns-2 : tie.Need-returns-2
 unfolding commandOf
@@ -40,15 +25,6 @@ returns-2 c =
       ← c .before .before .before .before .is-write-register .ensures,
       c .before .before .before .if1 .left,
     )
-
-is-write-memory-requires : tie.Need-is-write-memory-requires
-is-write-memory-requires c κs = search needs
-
-number-at-requires-4 : tie.Need-number-at-requires-4
-number-at-requires-4 c κs = search needs
-
-word-at-requires : tie.Need-word-at-requires
-word-at-requires c κs = search needs
 
 returns-3 : tie.Need-returns-3
 unfolding commandOf
@@ -64,12 +40,6 @@ returns-3 c =
       c .before .before .before .before .before .before .if1 .left,
     )
 
-is-read-memory-requires : tie.Need-is-read-memory-requires
-is-read-memory-requires c κs = search needs
-
-number-at-requires-5 : tie.Need-number-at-requires-5
-number-at-requires-5 c κs = search needs
-
 returns-4 : tie.Need-returns-4
 unfolding commandOf
 returns-4 c =
@@ -84,18 +54,6 @@ returns-4 c =
       ← c .before .before .before .before .before .before .before .before .is-write-register .ensures,
       c .before .before .before .before .before .before .before .if1 .left,
     )
-
-is-tick-requires : tie.Need-is-tick-requires
-is-tick-requires c κs = search needs
-
-number-at-requires-6 : tie.Need-number-at-requires-6
-number-at-requires-6 c κs = search needs
-
-number-at-requires-7 : tie.Need-number-at-requires-7
-number-at-requires-7 c κs = search needs
-
-number-at-requires-8 : tie.Need-number-at-requires-8
-number-at-requires-8 c κs = search needs
 
 returns-5 : tie.Need-returns-5
 unfolding commandOf
@@ -136,23 +94,23 @@ pub command-of-spec : {M : Type 1} → statement M
 command-of-spec =
     tie.close
     (tie.spec
-    is-write-register-requires
-    number-at-requires
-    number-at-requires-2
+    (λ c κs. search needs)
+    (λ c κs. search needs)
+    (λ c κs. search needs)
     returns
-    is-read-register-requires
-    number-at-requires-3
+    (λ c κs. search needs)
+    (λ c κs. search needs)
     returns-2
-    is-write-memory-requires
-    number-at-requires-4
-    word-at-requires
+    (λ c κs. search needs)
+    (λ c κs. search needs)
+    (λ c κs. search needs)
     returns-3
-    is-read-memory-requires
-    number-at-requires-5
+    (λ c κs. search needs)
+    (λ c κs. search needs)
     returns-4
-    is-tick-requires
-    number-at-requires-6
-    number-at-requires-7
-    number-at-requires-8
+    (λ c κs. search needs)
+    (λ c κs. search needs)
+    (λ c κs. search needs)
+    (λ c κs. search needs)
     returns-5
     returns-6)

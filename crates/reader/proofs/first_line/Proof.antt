@@ -6,14 +6,8 @@ use borrow.Author.Needs.{needs}
 use Rattle.reader.proofs.first_line.Statement.{statement}
 use Rattle.reader.proofs.first_line.Tie as tie
 
-line-length-requires : tie.Need-line-length-requires
-line-length-requires c κs = search needs
-
 slice-aggregate-command-of : tie.Need-slice-aggregate-command-of
 slice-aggregate-command-of c = sym (length-take-le _ _ (c .before .line-length .ensures .1))
-
-command-of-requires : tie.Need-command-of-requires
-command-of-requires c κs = search needs
 
 returns : tie.Need-returns
 returns c = rw (c .command-of .ensures, c .before .before .line-length .ensures .0)
@@ -21,4 +15,4 @@ returns c = rw (c .command-of .ensures, c .before .before .line-length .ensures 
 pub first-line-spec : {M : Type 1} → statement M
 first-line-spec =
     tie.close
-    (tie.spec line-length-requires slice-aggregate-command-of command-of-requires returns)
+    (tie.spec (λ c κs. search needs) slice-aggregate-command-of (λ c κs. search needs) returns)

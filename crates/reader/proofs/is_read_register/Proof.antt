@@ -5,17 +5,11 @@ use borrow.Author.Needs.{needs}
 use Rattle.reader.proofs.is_read_register.Statement.{statement}
 use Rattle.reader.proofs.is_read_register.Tie as tie
 
-byte-requires : tie.Need-byte-requires
-byte-requires c κs = search needs
-
 returns : tie.Need-returns
 returns c = rw (← c .before .byte .ensures, ne-eqb _ _ (c .if1 .taken))
-
-has-field-requires : tie.Need-has-field-requires
-has-field-requires c κs = search needs
 
 returns-2 : tie.Need-returns-2
 returns-2 c = rw (c .has-field .ensures, ← c .before .before .byte .ensures, eq-eqb _ _ (c .before .if1 .left))
 
 pub is-read-register-spec : {M : Type 1} → statement M
-is-read-register-spec = tie.close (tie.spec byte-requires returns has-field-requires returns-2)
+is-read-register-spec = tie.close (tie.spec (λ c κs. search needs) returns (λ c κs. search needs) returns-2)

@@ -5,20 +5,8 @@ use borrow.Author.Needs.{needs}
 use Rattle.reader.proofs.is_tick.Statement.{statement}
 use Rattle.reader.proofs.is_tick.Tie as tie
 
-byte-requires : tie.Need-byte-requires
-byte-requires c κs = search needs
-
 returns : tie.Need-returns
 returns c = rw (← c .before .byte .ensures, ne-eqb _ _ (c .if1 .taken))
-
-has-field-requires : tie.Need-has-field-requires
-has-field-requires c κs = search needs
-
-has-field-requires-2 : tie.Need-has-field-requires-2
-has-field-requires-2 c κs = search needs
-
-has-field-requires-3 : tie.Need-has-field-requires-3
-has-field-requires-3 c κs = search needs
 
 returns-2 : tie.Need-returns-2
 returns-2 c =
@@ -34,9 +22,9 @@ pub is-tick-spec : {M : Type 1} → statement M
 is-tick-spec =
     tie.close
     (tie.spec
-    byte-requires
+    (λ c κs. search needs)
     returns
-    has-field-requires
-    has-field-requires-2
-    has-field-requires-3
+    (λ c κs. search needs)
+    (λ c κs. search needs)
+    (λ c κs. search needs)
     returns-2)

@@ -5,17 +5,8 @@ use borrow.Author.Needs.{needs}
 use Rattle.reader.proofs.is_write_register.Statement.{statement}
 use Rattle.reader.proofs.is_write_register.Tie as tie
 
-byte-requires : tie.Need-byte-requires
-byte-requires c κs = search needs
-
 returns : tie.Need-returns
 returns c = rw (← c .before .byte .ensures, ne-eqb _ _ (c .if1 .taken))
-
-has-field-requires : tie.Need-has-field-requires
-has-field-requires c κs = search needs
-
-has-field-requires-2 : tie.Need-has-field-requires-2
-has-field-requires-2 c κs = search needs
 
 returns-2 : tie.Need-returns-2
 returns-2 c =
@@ -28,4 +19,4 @@ returns-2 c =
 
 pub is-write-register-spec : {M : Type 1} → statement M
 is-write-register-spec =
-    tie.close (tie.spec byte-requires returns has-field-requires has-field-requires-2 returns-2)
+    tie.close (tie.spec (λ c κs. search needs) returns (λ c κs. search needs) (λ c κs. search needs) returns-2)

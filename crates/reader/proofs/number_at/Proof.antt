@@ -27,25 +27,10 @@ mul-value c =
     let p = pow-le-pow-right {n = 16} (omega arith) {i = c .before .loop .i} {j = 7} (omega arith) in
     omega (arith, p)
 
-add-byte : tie.Need-add-byte Inv-loop μ-loop
-add-byte c = search needs
-
-byte-requires : tie.Need-byte-requires Inv-loop μ-loop
-byte-requires c κs = search needs
-
-digit-requires : tie.Need-digit-requires Inv-loop μ-loop
-digit-requires c κs = search needs
-
 add-value : tie.Need-add-value Inv-loop μ-loop
 add-value c =
     let p = pow-le-pow-right {n = 16} (omega arith) {i = c .before .before .before .loop .i} {j = 7} (omega arith) in
     omega (arith, p)
-
-add-i : tie.Need-add-i Inv-loop μ-loop
-add-i c = search needs
-
-loop-less : tie.Need-loop-less Inv-loop μ-loop
-loop-less c = search needs
 
 loop-again : tie.Need-loop-again Inv-loop μ-loop
 unfolding numberAt
@@ -73,11 +58,11 @@ number-at-spec =
     μ-loop
     loop-holds
     mul-value
-    add-byte
-    byte-requires
-    digit-requires
+    (λ c. search needs)
+    (λ c κs. search needs)
+    (λ c κs. search needs)
     add-value
-    add-i
-    loop-less
+    (λ c. search needs)
+    (λ c. search needs)
     loop-again
     returns)

@@ -12,9 +12,6 @@ use borrow.Author.Needs.{needs}
 use Rattle.script.proofs.answers.Statement.{statement}
 use Rattle.script.proofs.answers.Tie as tie
 
-put-no-requires : tie.Need-put-no-requires
-put-no-requires c κs = search needs
-
 returns : tie.Need-returns
 returns c =
     let args = c .before .before .before .before .args in
@@ -22,17 +19,8 @@ returns c =
     let printed = no-printed (args .out .now) _ (c .put-no .result) full (c .put-no .ensures) in
     (printed .0 ∙ sym (long-script (args .script .now) (c .before .before .if1 .taken)), (printed .1, c .put-no .kept .0 ∙ full))
 
-line-length-requires : tie.Need-line-length-requires
-line-length-requires c κs = search needs
-
 slice-aggregate-is-header : tie.Need-slice-aggregate-is-header
 slice-aggregate-is-header c = sym (length-take-le _ _ (c .before .line-length .ensures .1))
-
-is-header-requires : tie.Need-is-header-requires
-is-header-requires c κs = search needs
-
-put-no-requires-2 : tie.Need-put-no-requires-2
-put-no-requires-2 c κs = search needs
 
 returns-2 : tie.Need-returns-2
 returns-2 c =
@@ -42,12 +30,6 @@ returns-2 c =
     let first = c .before .before .before .before .before .line-length .ensures .0 in
     let bad = sym (ap (λ (n : ℕ). isHeaderOf (take n (args .script .now))) first) ∙ sym (c .before .before .before .is-header .ensures) ∙ not-true _ (c .before .before .if2 .taken) in
     (printed .0 ∙ sym (bad-first (args .script .now) (c .before .before .before .before .before .before .if1 .left) bad), (printed .1, c .put-no2 .kept .0 ∙ full))
-
-add-run-from : tie.Need-add-run-from
-add-run-from c = search needs
-
-run-from-requires : tie.Need-run-from-requires
-run-from-requires c κs = search needs
 
 returns-3 : tie.Need-returns-3
 returns-3 c =
@@ -65,13 +47,13 @@ pub answers-spec : {M : Type 1} → statement M
 answers-spec =
     tie.close
     (tie.spec
-    put-no-requires
+    (λ c κs. search needs)
     returns
-    line-length-requires
+    (λ c κs. search needs)
     slice-aggregate-is-header
-    is-header-requires
-    put-no-requires-2
+    (λ c κs. search needs)
+    (λ c κs. search needs)
     returns-2
-    add-run-from
-    run-from-requires
+    (λ c. search needs)
+    (λ c κs. search needs)
     returns-3)

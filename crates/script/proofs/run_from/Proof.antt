@@ -32,12 +32,6 @@ Inv-loop script start out₀ memory₀ s₀ at₀ printed₀ out memory s at pri
 abbrev μ-loop : tie.MeasureT-loop
 μ-loop script start out₀ memory₀ s₀ at₀ printed₀ out memory s at printed = length script - at
 
-zeros-requires : tie.Need-zeros-requires Inv-loop μ-loop
-zeros-requires c κs = search needs
-
-fresh-requires : tie.Need-fresh-requires Inv-loop μ-loop
-fresh-requires c κs = search needs
-
 loop-holds : tie.Need-loop-holds Inv-loop μ-loop
 unfolding freshSession
 loop-holds c =
@@ -52,21 +46,6 @@ loop-holds c =
 
 sub-first-line : tie.Need-sub-first-line Inv-loop μ-loop
 sub-first-line c = omega arith
-
-part-first-line-start : tie.Need-part-first-line-start Inv-loop μ-loop
-part-first-line-start c = search needs
-
-part-first-line-end : tie.Need-part-first-line-end Inv-loop μ-loop
-part-first-line-end c = search needs
-
-first-line-requires : tie.Need-first-line-requires Inv-loop μ-loop
-first-line-requires c κs = search needs
-
-slice-aggregate-run-line : tie.Need-slice-aggregate-run-line Inv-loop μ-loop
-slice-aggregate-run-line c = search needs
-
-run-line-requires : tie.Need-run-line-requires Inv-loop μ-loop
-run-line-requires c κs = search needs
 
 -- what the line reader read is the line that starts at the loop's place
 line-read : (c : tie.After-first-line Inv-loop μ-loop) →
@@ -129,15 +108,15 @@ run-from-spec =
     (tie.spec
     Inv-loop
     μ-loop
-    zeros-requires
-    fresh-requires
+    (λ c κs. search needs)
+    (λ c κs. search needs)
     loop-holds
     sub-first-line
-    part-first-line-start
-    part-first-line-end
-    first-line-requires
-    slice-aggregate-run-line
-    run-line-requires
+    (λ c. search needs)
+    (λ c. search needs)
+    (λ c κs. search needs)
+    (λ c. search needs)
+    (λ c κs. search needs)
     add-at
     add-at-2
     loop-less

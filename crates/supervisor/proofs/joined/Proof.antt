@@ -5,12 +5,9 @@ use borrow.Author.Needs.{needs}
 use Rattle.supervisor.proofs.joined.Statement.{statement}
 use Rattle.supervisor.proofs.joined.Tie as tie
 
-lines-out-requires : tie.Need-lines-out-requires
-lines-out-requires c κs = search needs
-
 returns : tie.Need-returns
 unfolding joinedOf
 returns c = rw (c .lines-out .ensures)
 
 pub joined-spec : {M : Type 1} → statement M
-joined-spec = tie.close (tie.spec lines-out-requires returns)
+joined-spec = tie.close (tie.spec (λ c κs. search needs) returns)

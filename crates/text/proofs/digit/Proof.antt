@@ -11,9 +11,6 @@ returns : tie.Need-returns
 unfolding digitOf
 returns c = (rw (lt-leb 48 (c .before .args .b) (omega arith), lt-leb 65 (c .before .args .b) (omega arith)), omega arith)
 
-cast-result : tie.Need-cast-result
-cast-result c = search needs
-
 returns-2 : tie.Need-returns-2
 unfolding digitOf
 returns-2 c =
@@ -25,12 +22,6 @@ unfolding digitOf
 returns-3 c =
     let b = c .before .before .before .args .b in
     (rw (le-leb 48 b (omega arith), lt-leb b 57 (omega arith), lt-leb 65 b (omega arith)), omega arith)
-
-cast-result-2 : tie.Need-cast-result-2
-cast-result-2 c = search needs
-
-add-result : tie.Need-add-result
-add-result c = search needs
 
 returns-4 : tie.Need-returns-4
 unfolding digitOf
@@ -61,4 +52,4 @@ returns-5 c =
 pub digit-spec : {M : Type 1} → statement M
 digit-spec =
     tie.close
-    (tie.spec returns cast-result returns-2 returns-3 cast-result-2 add-result returns-4 returns-5)
+    (tie.spec returns (λ c. search needs) returns-2 returns-3 (λ c. search needs) (λ c. search needs) returns-4 returns-5)

@@ -5,21 +5,9 @@ use borrow.Author.Needs.{needs}
 use Rattle.text.proofs.digit_byte.Statement.{statement}
 use Rattle.text.proofs.digit_byte.Tie as tie
 
-mul-hex-digit : tie.Need-mul-hex-digit
-mul-hex-digit c = search needs
-
-shr-hex-digit : tie.Need-shr-hex-digit
-shr-hex-digit c = search needs
-
-cast-hex-digit : tie.Need-cast-hex-digit
-cast-hex-digit c = search needs
-
-hex-digit-requires : tie.Need-hex-digit-requires
-hex-digit-requires c κs = search needs
-
 returns : tie.Need-returns
 returns c = rw (c .hex-digit .ensures, power-of-digits)
 
 pub digit-byte-spec : {M : Type 1} → statement M
 digit-byte-spec =
-    tie.close (tie.spec mul-hex-digit shr-hex-digit cast-hex-digit hex-digit-requires returns)
+    tie.close (tie.spec (λ c. search needs) (λ c. search needs) (λ c. search needs) (λ c κs. search needs) returns)

@@ -5,9 +5,6 @@ use borrow.Author.Needs.{needs}
 use Rattle.branches.proofs.Readout.emptied.Statement.{statement}
 use Rattle.branches.proofs.Readout.emptied.Tie as tie
 
-fresh-requires : tie.Need-fresh-requires
-fresh-requires c κs = search needs
-
 returns : tie.Need-returns
 returns c =
     let start = c .before in
@@ -16,4 +13,4 @@ returns c =
     rw (c .fresh .ensures) (emptied-of-four r four)
 
 pub emptied-spec : {M : Type 1} → statement M
-emptied-spec = tie.close (tie.spec fresh-requires returns)
+emptied-spec = tie.close (tie.spec (λ c κs. search needs) returns)

@@ -10,24 +10,6 @@ use borrow.Author.Needs.{needs}
 use Rattle.branches.proofs.Readout.has_room.Statement.{statement}
 use Rattle.branches.proofs.Readout.has_room.Tie as tie
 
-array-copy-out-b0 : tie.Need-array-copy-out-b0
-array-copy-out-b0 c = search needs
-
-array-copy-out-b1 : tie.Need-array-copy-out-b1
-array-copy-out-b1 c = search needs
-
-array-copy-out-b2 : tie.Need-array-copy-out-b2
-array-copy-out-b2 c = search needs
-
-array-copy-out-b3 : tie.Need-array-copy-out-b3
-array-copy-out-b3 c = search needs
-
-depth-requires : tie.Need-depth-requires
-depth-requires c κs = search needs
-
-depth-requires-2 : tie.Need-depth-requires-2
-depth-requires-2 c κs = search needs
-
 returns : tie.Need-returns
 unfolding hasRoomOf
 returns c =
@@ -44,10 +26,10 @@ pub has-room-spec : {M : Type 1} → statement M
 has-room-spec =
     tie.close
     (tie.spec
-    array-copy-out-b0
-    array-copy-out-b1
-    array-copy-out-b2
-    array-copy-out-b3
-    depth-requires
-    depth-requires-2
+    (λ c. search needs)
+    (λ c. search needs)
+    (λ c. search needs)
+    (λ c. search needs)
+    (λ c κs. search needs)
+    (λ c κs. search needs)
     returns)

@@ -7,9 +7,6 @@ use borrow.Author.Needs.{needs}
 use Rattle.branches.proofs.Readout.initialized.Statement.{statement}
 use Rattle.branches.proofs.Readout.initialized.Tie as tie
 
-fresh-requires : tie.Need-fresh-requires
-fresh-requires c κs = search needs
-
 returns : tie.Need-returns
 returns c =
     let start = c .before in
@@ -17,4 +14,4 @@ returns c =
     c .fresh .ensures ∙ ap freshOf (sym four)
 
 pub initialized-spec : {M : Type 1} → statement M
-initialized-spec = tie.close (tie.spec fresh-requires returns)
+initialized-spec = tie.close (tie.spec (λ c κs. search needs) returns)

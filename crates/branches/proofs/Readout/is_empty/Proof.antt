@@ -10,18 +10,6 @@ use borrow.Author.Needs.{needs}
 use Rattle.branches.proofs.Readout.is_empty.Statement.{statement}
 use Rattle.branches.proofs.Readout.is_empty.Tie as tie
 
-array-copy-out-b0 : tie.Need-array-copy-out-b0
-array-copy-out-b0 c = search needs
-
-array-copy-out-b1 : tie.Need-array-copy-out-b1
-array-copy-out-b1 c = search needs
-
-array-copy-out-b2 : tie.Need-array-copy-out-b2
-array-copy-out-b2 c = search needs
-
-array-copy-out-b3 : tie.Need-array-copy-out-b3
-array-copy-out-b3 c = search needs
-
 returns : tie.Need-returns
 unfolding isEmptyOf
 returns c =
@@ -33,4 +21,4 @@ returns c =
 pub is-empty-spec : {M : Type 1} → statement M
 is-empty-spec =
     tie.close
-    (tie.spec array-copy-out-b0 array-copy-out-b1 array-copy-out-b2 array-copy-out-b3 returns)
+    (tie.spec (λ c. search needs) (λ c. search needs) (λ c. search needs) (λ c. search needs) returns)

@@ -9,30 +9,6 @@ use borrow.Author.Needs.{needs}
 use Rattle.branches.proofs.Readout.is_quiet.Statement.{statement}
 use Rattle.branches.proofs.Readout.is_quiet.Tie as tie
 
-array-copy-out-b0 : tie.Need-array-copy-out-b0
-array-copy-out-b0 c = search needs
-
-array-copy-out-b1 : tie.Need-array-copy-out-b1
-array-copy-out-b1 c = search needs
-
-array-copy-out-b2 : tie.Need-array-copy-out-b2
-array-copy-out-b2 c = search needs
-
-array-copy-out-b3 : tie.Need-array-copy-out-b3
-array-copy-out-b3 c = search needs
-
-is-quiet-requires : tie.Need-is-quiet-requires
-is-quiet-requires c κs = search needs
-
-is-quiet-requires-2 : tie.Need-is-quiet-requires-2
-is-quiet-requires-2 c κs = search needs
-
-is-quiet-requires-3 : tie.Need-is-quiet-requires-3
-is-quiet-requires-3 c κs = search needs
-
-is-quiet-requires-4 : tie.Need-is-quiet-requires-4
-is-quiet-requires-4 c κs = search needs
-
 returns : tie.Need-returns
 unfolding isQuietOf
 returns c =
@@ -50,12 +26,12 @@ pub is-quiet-spec : {M : Type 1} → statement M
 is-quiet-spec =
     tie.close
     (tie.spec
-    array-copy-out-b0
-    array-copy-out-b1
-    array-copy-out-b2
-    array-copy-out-b3
-    is-quiet-requires
-    is-quiet-requires-2
-    is-quiet-requires-3
-    is-quiet-requires-4
+    (λ c. search needs)
+    (λ c. search needs)
+    (λ c. search needs)
+    (λ c. search needs)
+    (λ c κs. search needs)
+    (λ c κs. search needs)
+    (λ c κs. search needs)
+    (λ c κs. search needs)
     returns)

@@ -11,21 +11,6 @@ use borrow.Author.Needs.{needs}
 use Rattle.branches.proofs.Readout.is_well_formed.Statement.{statement}
 use Rattle.branches.proofs.Readout.is_well_formed.Tie as tie
 
-array-copy-out-b0 : tie.Need-array-copy-out-b0
-array-copy-out-b0 c = search needs
-
-array-copy-out-b1 : tie.Need-array-copy-out-b1
-array-copy-out-b1 c = search needs
-
-array-copy-out-b2 : tie.Need-array-copy-out-b2
-array-copy-out-b2 c = search needs
-
-array-copy-out-b3 : tie.Need-array-copy-out-b3
-array-copy-out-b3 c = search needs
-
-is-quiet-requires : tie.Need-is-quiet-requires
-is-quiet-requires c κs = search needs
-
 returns : tie.Need-returns
 returns c =
     let tested = c .before .before .before .before in
@@ -35,18 +20,6 @@ returns c =
     let bs = a .self .branches in
     let quiet = sym (tested .before .is-quiet .ensures) ∙ tested .if1 .taken in
     every-of-four (length bs) (λ k. eqb (branchAt bs k .words) 0) four ∙ quiet-is-well-formed (a .eight) (a .self) quiet
-
-is-sound-branch-requires : tie.Need-is-sound-branch-requires
-is-sound-branch-requires c κs = search needs
-
-is-sound-branch-requires-2 : tie.Need-is-sound-branch-requires-2
-is-sound-branch-requires-2 c κs = search needs
-
-is-sound-branch-requires-3 : tie.Need-is-sound-branch-requires-3
-is-sound-branch-requires-3 c κs = search needs
-
-is-sound-branch-requires-4 : tie.Need-is-sound-branch-requires-4
-is-sound-branch-requires-4 c κs = search needs
 
 returns-2 : tie.Need-returns-2
 unfolding isWellFormedOf
@@ -66,14 +39,14 @@ pub is-well-formed-spec : {M : Type 1} → statement M
 is-well-formed-spec =
     tie.close
     (tie.spec
-    array-copy-out-b0
-    array-copy-out-b1
-    array-copy-out-b2
-    array-copy-out-b3
-    is-quiet-requires
+    (λ c. search needs)
+    (λ c. search needs)
+    (λ c. search needs)
+    (λ c. search needs)
+    (λ c κs. search needs)
     returns
-    is-sound-branch-requires
-    is-sound-branch-requires-2
-    is-sound-branch-requires-3
-    is-sound-branch-requires-4
+    (λ c κs. search needs)
+    (λ c κs. search needs)
+    (λ c κs. search needs)
+    (λ c κs. search needs)
     returns-2)

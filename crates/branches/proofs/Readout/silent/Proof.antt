@@ -11,30 +11,6 @@ use borrow.Author.Needs.{needs}
 use Rattle.branches.proofs.Readout.silent.Statement.{statement}
 use Rattle.branches.proofs.Readout.silent.Tie as tie
 
-array-copy-out-b0 : tie.Need-array-copy-out-b0
-array-copy-out-b0 c = search needs
-
-array-copy-out-b1 : tie.Need-array-copy-out-b1
-array-copy-out-b1 c = search needs
-
-array-copy-out-b2 : tie.Need-array-copy-out-b2
-array-copy-out-b2 c = search needs
-
-array-copy-out-b3 : tie.Need-array-copy-out-b3
-array-copy-out-b3 c = search needs
-
-rebuilt-requires : tie.Need-rebuilt-requires
-rebuilt-requires c κs = search needs
-
-rebuilt-requires-2 : tie.Need-rebuilt-requires-2
-rebuilt-requires-2 c κs = search needs
-
-rebuilt-requires-3 : tie.Need-rebuilt-requires-3
-rebuilt-requires-3 c κs = search needs
-
-rebuilt-requires-4 : tie.Need-rebuilt-requires-4
-rebuilt-requires-4 c κs = search needs
-
 returns : tie.Need-returns
 returns c =
     let start = c .before .before .before .before .before .before .before .before .before in
@@ -51,12 +27,12 @@ pub silent-spec : {M : Type 1} → statement M
 silent-spec =
     tie.close
     (tie.spec
-    array-copy-out-b0
-    array-copy-out-b1
-    array-copy-out-b2
-    array-copy-out-b3
-    rebuilt-requires
-    rebuilt-requires-2
-    rebuilt-requires-3
-    rebuilt-requires-4
+    (λ c. search needs)
+    (λ c. search needs)
+    (λ c. search needs)
+    (λ c. search needs)
+    (λ c κs. search needs)
+    (λ c κs. search needs)
+    (λ c κs. search needs)
+    (λ c κs. search needs)
     returns)

@@ -9,15 +9,6 @@ use borrow.Author.Needs.{needs}
 use Rattle.branches.proofs.Readout.step.Statement.{statement}
 use Rattle.branches.proofs.Readout.step.Tie as tie
 
-is-quiet-requires : tie.Need-is-quiet-requires
-is-quiet-requires c κs = search needs
-
-is-word-requires : tie.Need-is-word-requires
-is-word-requires c κs = search needs
-
-silent-requires : tie.Need-silent-requires
-silent-requires c κs = search needs
-
 returns : tie.Need-returns
 returns c =
     let start = c .before .before .before .before in
@@ -30,19 +21,13 @@ returns c =
     let noWord = sym (c .before .before .is-word .ensures) ∙ not-true word (and-right quiet (not word) test) in
     c .silent .ensures ∙ quiet-is-silent (a .acks) (a .load) (a .self) four isQuiet noWord
 
-stepped-requires : tie.Need-stepped-requires
-stepped-requires c κs = search needs
-
-returns-2 : tie.Need-returns-2
-returns-2 c = search needs
-
 pub step-spec : {M : Type 1} → statement M
 step-spec =
     tie.close
     (tie.spec
-    is-quiet-requires
-    is-word-requires
-    silent-requires
+    (λ c κs. search needs)
+    (λ c κs. search needs)
+    (λ c κs. search needs)
     returns
-    stepped-requires
-    returns-2)
+    (λ c κs. search needs)
+    (λ c. search needs))

@@ -4,11 +4,8 @@ use borrow.Author.Needs.{needs}
 use Rattle.core.proofs.Core.allows_eight.Statement.{statement}
 use Rattle.core.proofs.Core.allows_eight.Tie as tie
 
-is-loaded-requires : tie.Need-is-loaded-requires
-is-loaded-requires c κs = search needs
-
 returns : tie.Need-returns
 returns c = rw (c .before .is-loaded .ensures)
 
 pub allows-eight-spec : {M : Type 1} → statement M
-allows-eight-spec = tie.close (tie.spec is-loaded-requires returns)
+allows-eight-spec = tie.close (tie.spec (λ c κs. search needs) returns)

@@ -4,17 +4,8 @@ use borrow.Author.Needs.{needs}
 use Rattle.core.proofs.Core.cycle_step.Statement.{statement}
 use Rattle.core.proofs.Core.cycle_step.Tie as tie
 
-aged-requires : tie.Need-aged-requires
-aged-requires c κs = search needs
-
-tests-requires : tie.Need-tests-requires
-tests-requires c κs = search needs
-
-step-requires : tie.Need-step-requires
-step-requires c κs = search needs
-
 returns : tie.Need-returns
 returns c = rw (c .step .ensures, c .before .tests .ensures, c .before .before .aged .ensures)
 
 pub cycle-step-spec : {M : Type 1} → statement M
-cycle-step-spec = tie.close (tie.spec aged-requires tests-requires step-requires returns)
+cycle-step-spec = tie.close (tie.spec (λ c κs. search needs) (λ c κs. search needs) (λ c κs. search needs) returns)

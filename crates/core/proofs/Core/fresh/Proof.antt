@@ -5,30 +5,6 @@ use borrow.Author.Needs.{needs}
 use Rattle.core.proofs.Core.fresh.Statement.{statement}
 use Rattle.core.proofs.Core.fresh.Tie as tie
 
-fresh-requires : tie.Need-fresh-requires
-fresh-requires c κs = search needs
-
-fresh-requires-2 : tie.Need-fresh-requires-2
-fresh-requires-2 c κs = search needs
-
-fresh-requires-3 : tie.Need-fresh-requires-3
-fresh-requires-3 c κs = search needs
-
-fresh-requires-4 : tie.Need-fresh-requires-4
-fresh-requires-4 c κs = search needs
-
-idle-requires : tie.Need-idle-requires
-idle-requires c κs = search needs
-
-fresh-requires-5 : tie.Need-fresh-requires-5
-fresh-requires-5 c κs = search needs
-
-fresh-requires-6 : tie.Need-fresh-requires-6
-fresh-requires-6 c κs = search needs
-
-fresh-requires-7 : tie.Need-fresh-requires-7
-fresh-requires-7 c κs = search needs
-
 returns : tie.Need-returns
 unfolding freshOf
 returns c =
@@ -47,12 +23,12 @@ pub fresh-spec : {M : Type 1} → statement M
 fresh-spec =
     tie.close
     (tie.spec
-    fresh-requires
-    fresh-requires-2
-    fresh-requires-3
-    fresh-requires-4
-    idle-requires
-    fresh-requires-5
-    fresh-requires-6
-    fresh-requires-7
+    (λ c κs. search needs)
+    (λ c κs. search needs)
+    (λ c κs. search needs)
+    (λ c κs. search needs)
+    (λ c κs. search needs)
+    (λ c κs. search needs)
+    (λ c κs. search needs)
+    (λ c κs. search needs)
     returns)

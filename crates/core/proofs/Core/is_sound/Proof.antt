@@ -5,30 +5,6 @@ use borrow.Author.Needs.{needs}
 use Rattle.core.proofs.Core.is_sound.Statement.{statement}
 use Rattle.core.proofs.Core.is_sound.Tie as tie
 
-has-counters-within-requires : tie.Need-has-counters-within-requires
-has-counters-within-requires c κs = search needs
-
-has-valid-factors-requires : tie.Need-has-valid-factors-requires
-has-valid-factors-requires c κs = search needs
-
-is-valid-stored-csr-requires : tie.Need-is-valid-stored-csr-requires
-is-valid-stored-csr-requires c κs = search needs
-
-is-valid-control-requires : tie.Need-is-valid-control-requires
-is-valid-control-requires c κs = search needs
-
-is-valid-assign-requires : tie.Need-is-valid-assign-requires
-is-valid-assign-requires c κs = search needs
-
-is-well-formed-requires : tie.Need-is-well-formed-requires
-is-well-formed-requires c κs = search needs
-
-is-within-requires : tie.Need-is-within-requires
-is-within-requires c κs = search needs
-
-is-idle-requires : tie.Need-is-idle-requires
-is-idle-requires c κs = search needs
-
 returns : tie.Need-returns
 unfolding isSoundOf
 returns c =
@@ -47,12 +23,12 @@ pub is-sound-spec : {M : Type 1} → statement M
 is-sound-spec =
     tie.close
     (tie.spec
-    has-counters-within-requires
-    has-valid-factors-requires
-    is-valid-stored-csr-requires
-    is-valid-control-requires
-    is-valid-assign-requires
-    is-well-formed-requires
-    is-within-requires
-    is-idle-requires
+    (λ c κs. search needs)
+    (λ c κs. search needs)
+    (λ c κs. search needs)
+    (λ c κs. search needs)
+    (λ c κs. search needs)
+    (λ c κs. search needs)
+    (λ c κs. search needs)
+    (λ c κs. search needs)
     returns)

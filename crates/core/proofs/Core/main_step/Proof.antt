@@ -8,12 +8,6 @@ use borrow.Author.Needs.{needs}
 use Rattle.core.proofs.Core.main_step.Statement.{statement}
 use Rattle.core.proofs.Core.main_step.Tie as tie
 
-accepted-requires : tie.Need-accepted-requires
-accepted-requires c κs = search needs
-
-quiet-step-requires : tie.Need-quiet-step-requires
-quiet-step-requires c κs = search needs
-
 returns : tie.Need-returns
 unfolding mainStepOf
 returns c =
@@ -23,12 +17,6 @@ returns c =
       ne-eqb _ _ (c .before .before .if1 .taken),
     )
 
-is-idle-requires : tie.Need-is-idle-requires
-is-idle-requires c κs = search needs
-
-quiet-step-requires-2 : tie.Need-quiet-step-requires-2
-quiet-step-requires-2 c κs = search needs
-
 returns-2 : tie.Need-returns-2
 unfolding mainStepOf
 returns-2 c =
@@ -36,9 +24,6 @@ returns-2 c =
     let idle = sym (c .before .before .is-idle .ensures) ∙ c .before .if2 .taken in
     rw (c .quiet-step2 .ensures, eq-eqb _ _ (c .before .before .before .if1 .left))
     (sym (idle-cycle-is-quiet (a .room) (a .empty) (a .lines) (a .self) idle))
-
-cycle-step-requires : tie.Need-cycle-step-requires
-cycle-step-requires c κs = search needs
 
 returns-3 : tie.Need-returns-3
 unfolding mainStepOf
@@ -48,11 +33,11 @@ pub main-step-spec : {M : Type 1} → statement M
 main-step-spec =
     tie.close
     (tie.spec
-    accepted-requires
-    quiet-step-requires
+    (λ c κs. search needs)
+    (λ c κs. search needs)
     returns
-    is-idle-requires
-    quiet-step-requires-2
+    (λ c κs. search needs)
+    (λ c κs. search needs)
     returns-2
-    cycle-step-requires
+    (λ c κs. search needs)
     returns-3)

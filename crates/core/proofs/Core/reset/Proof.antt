@@ -5,21 +5,6 @@ use borrow.Author.Needs.{needs}
 use Rattle.core.proofs.Core.reset.Statement.{statement}
 use Rattle.core.proofs.Core.reset.Tie as tie
 
-reloaded-requires : tie.Need-reloaded-requires
-reloaded-requires c κs = search needs
-
-reset-requires : tie.Need-reset-requires
-reset-requires c κs = search needs
-
-idle-requires : tie.Need-idle-requires
-idle-requires c κs = search needs
-
-zeroed-requires : tie.Need-zeroed-requires
-zeroed-requires c κs = search needs
-
-fresh-requires : tie.Need-fresh-requires
-fresh-requires c κs = search needs
-
 returns : tie.Need-returns
 unfolding resetOf
 returns c =
@@ -35,9 +20,9 @@ pub reset-spec : {M : Type 1} → statement M
 reset-spec =
     tie.close
     (tie.spec
-    reloaded-requires
-    reset-requires
-    idle-requires
-    zeroed-requires
-    fresh-requires
+    (λ c κs. search needs)
+    (λ c κs. search needs)
+    (λ c κs. search needs)
+    (λ c κs. search needs)
+    (λ c κs. search needs)
     returns)

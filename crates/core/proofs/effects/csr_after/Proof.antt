@@ -5,21 +5,6 @@ use borrow.Author.Needs.{needs}
 use Rattle.core.proofs.effects.csr_after.Statement.{statement}
 use Rattle.core.proofs.effects.csr_after.Tie as tie
 
-has-inhibit-requires : tie.Need-has-inhibit-requires
-has-inhibit-requires c κs = search needs
-
-status-requires : tie.Need-status-requires
-status-requires c κs = search needs
-
-sync-hold-ended-if-requires : tie.Need-sync-hold-ended-if-requires
-sync-hold-ended-if-requires c κs = search needs
-
-user-sync-ended-if-requires : tie.Need-user-sync-ended-if-requires
-user-sync-ended-if-requires c κs = search needs
-
-marked-requires : tie.Need-marked-requires
-marked-requires c κs = search needs
-
 returns : tie.Need-returns
 unfolding csrAfterOf
 returns c =
@@ -35,9 +20,9 @@ pub csr-after-spec : {M : Type 1} → statement M
 csr-after-spec =
     tie.close
     (tie.spec
-    has-inhibit-requires
-    status-requires
-    sync-hold-ended-if-requires
-    user-sync-ended-if-requires
-    marked-requires
+    (λ c κs. search needs)
+    (λ c κs. search needs)
+    (λ c κs. search needs)
+    (λ c κs. search needs)
+    (λ c κs. search needs)
     returns)

@@ -4,9 +4,6 @@ use borrow.Author.Needs.{needs}
 use Rattle.core.proofs.effects.latched_pulses.Statement.{statement}
 use Rattle.core.proofs.effects.latched_pulses.Tie as tie
 
-is-ok-word-requires : tie.Need-is-ok-word-requires
-is-ok-word-requires c κs = search needs
-
 returns : tie.Need-returns
 returns c = rw (← c .before .is-ok-word .ensures, c .if2 .taken, c .before .before .if1 .taken)
 
@@ -17,4 +14,4 @@ returns-3 : tie.Need-returns-3
 returns-3 c = rw (c .if1 .left)
 
 pub latched-pulses-spec : {M : Type 1} → statement M
-latched-pulses-spec = tie.close (tie.spec is-ok-word-requires returns returns-2 returns-3)
+latched-pulses-spec = tie.close (tie.spec (λ c κs. search needs) returns returns-2 returns-3)

@@ -7,8 +7,5 @@ use Rattle.core.proofs.effects.outcome_after.Tie as tie
 returns : tie.Need-returns
 returns c = rw (c .if1 .taken)
 
-returns-2 : tie.Need-returns-2
-returns-2 c = search needs
-
 pub outcome-after-spec : {M : Type 1} → statement M
-outcome-after-spec = tie.close (tie.spec returns returns-2)
+outcome-after-spec = tie.close (tie.spec returns (λ c. search needs))

@@ -4,11 +4,8 @@ use borrow.Author.Needs.{needs}
 use Rattle.core.proofs.effects.signals_of.Statement.{statement}
 use Rattle.core.proofs.effects.signals_of.Tie as tie
 
-is-event-requires : tie.Need-is-event-requires
-is-event-requires c κs = search needs
-
 returns : tie.Need-returns
 returns c = rw (c .before .before .is-event .ensures)
 
 pub signals-of-spec : {M : Type 1} → statement M
-signals-of-spec = tie.close (tie.spec is-event-requires returns)
+signals-of-spec = tie.close (tie.spec (λ c κs. search needs) returns)

@@ -5,18 +5,9 @@ use borrow.Author.Needs.{needs}
 use Rattle.core.proofs.effects.sync_after.Statement.{statement}
 use Rattle.core.proofs.effects.sync_after.Tie as tie
 
-zeroed-requires : tie.Need-zeroed-requires
-zeroed-requires c κs = search needs
-
 returns : tie.Need-returns
 unfolding syncAfterOf
 returns c = rw (c .zeroed .ensures, c .before .if1 .taken)
-
-is-event-requires : tie.Need-is-event-requires
-is-event-requires c κs = search needs
-
-after-load-requires : tie.Need-after-load-requires
-after-load-requires c κs = search needs
 
 returns-2 : tie.Need-returns-2
 unfolding syncAfterOf
@@ -35,4 +26,4 @@ returns-3 c = rw (← c .before .is-event .ensures, c .if2 .left, c .before .bef
 pub sync-after-spec : {M : Type 1} → statement M
 sync-after-spec =
     tie.close
-    (tie.spec zeroed-requires returns is-event-requires after-load-requires returns-2 returns-3)
+    (tie.spec (λ c κs. search needs) returns (λ c κs. search needs) (λ c κs. search needs) returns-2 returns-3)

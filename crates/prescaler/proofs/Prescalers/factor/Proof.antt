@@ -6,15 +6,6 @@ use borrow.Author.Needs.{needs}
 use Rattle.prescaler.proofs.Prescalers.factor.Statement.{statement}
 use Rattle.prescaler.proofs.Prescalers.factor.Tie as tie
 
-cast-place : tie.Need-cast-place
-cast-place c = search needs
-
-mul-result : tie.Need-mul-result
-mul-result c = search needs
-
-array-read-result : tie.Need-array-read-result
-array-read-result c = search needs
-
 returns : tie.Need-returns
 unfolding factorOf
 returns c = rw (le-leb _ _ (c .if2 .taken), le-leb _ _ (c .before .if1 .taken))
@@ -29,4 +20,4 @@ returns-3 c = rw (lt-leb _ _ (c .if1 .left))
 
 pub factor-spec : {M : Type 1} → statement M
 factor-spec =
-    tie.close (tie.spec cast-place mul-result array-read-result returns returns-2 returns-3)
+    tie.close (tie.spec (λ c. search needs) (λ c. search needs) (λ c. search needs) returns returns-2 returns-3)

@@ -7,30 +7,6 @@ use borrow.Author.Needs.{needs}
 use Rattle.prescaler.proofs.Prescalers.has_valid_factors.Statement.{statement}
 use Rattle.prescaler.proofs.Prescalers.has_valid_factors.Tie as tie
 
-array-read-fits0 : tie.Need-array-read-fits0
-array-read-fits0 c = search needs
-
-array-read-fits1 : tie.Need-array-read-fits1
-array-read-fits1 c = search needs
-
-array-read-fits2 : tie.Need-array-read-fits2
-array-read-fits2 c = search needs
-
-array-read-fits3 : tie.Need-array-read-fits3
-array-read-fits3 c = search needs
-
-array-read-fits4 : tie.Need-array-read-fits4
-array-read-fits4 c = search needs
-
-array-read-fits5 : tie.Need-array-read-fits5
-array-read-fits5 c = search needs
-
-array-read-fits6 : tie.Need-array-read-fits6
-array-read-fits6 c = search needs
-
-array-read-fits7 : tie.Need-array-read-fits7
-array-read-fits7 c = search needs
-
 returns : tie.Need-returns
 unfolding hasValidFactorsOf every
 returns c = refl
@@ -39,12 +15,12 @@ pub has-valid-factors-spec : {M : Type 1} → statement M
 has-valid-factors-spec =
     tie.close
     (tie.spec
-    array-read-fits0
-    array-read-fits1
-    array-read-fits2
-    array-read-fits3
-    array-read-fits4
-    array-read-fits5
-    array-read-fits6
-    array-read-fits7
+    (λ c. search needs)
+    (λ c. search needs)
+    (λ c. search needs)
+    (λ c. search needs)
+    (λ c. search needs)
+    (λ c. search needs)
+    (λ c. search needs)
+    (λ c. search needs)
     returns)

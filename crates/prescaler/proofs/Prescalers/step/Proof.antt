@@ -18,13 +18,10 @@ returns-2 c =
     rw (not-false (a .runs) (c .before .if1 .left))
     (passed-by-choices (a .pulses) (a .self) (c .if2 .taken) (search needs))
 
-counted-down-requires : tie.Need-counted-down-requires
-counted-down-requires c κs = search needs
-
 returns-3 : tie.Need-returns-3
 returns-3 c =
     let runs = c .before .before .before .args .runs in
     rw (c .counted-down .ensures, not-false runs (c .before .before .if1 .left))
 
 pub step-spec : {M : Type 1} → statement M
-step-spec = tie.close (tie.spec returns returns-2 counted-down-requires returns-3)
+step-spec = tie.close (tie.spec returns returns-2 (λ c κs. search needs) returns-3)

@@ -5,18 +5,9 @@ use borrow.Author.Needs.{needs}
 use Rattle.scalers.proofs.Scalers.counted.Statement.{statement}
 use Rattle.scalers.proofs.Scalers.counted.Tie as tie
 
-counts-requires : tie.Need-counts-requires
-counts-requires c κs = search needs
-
-add-requires : tie.Need-add-requires
-add-requires c κs = search needs
-
-add-requires-2 : tie.Need-add-requires-2
-add-requires-2 c κs = search needs
-
 returns : tie.Need-returns
 unfolding countedOf
 returns c = rw (c .add2 .ensures, c .before .add .ensures, c .before .before .counts .ensures)
 
 pub counted-spec : {M : Type 1} → statement M
-counted-spec = tie.close (tie.spec counts-requires add-requires add-requires-2 returns)
+counted-spec = tie.close (tie.spec (λ c κs. search needs) (λ c κs. search needs) (λ c κs. search needs) returns)

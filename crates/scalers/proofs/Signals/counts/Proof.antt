@@ -6,18 +6,9 @@ use borrow.Author.Needs.{needs}
 use Rattle.scalers.proofs.Signals.counts.Statement.{statement}
 use Rattle.scalers.proofs.Signals.counts.Tie as tie
 
-is-some-requires : tie.Need-is-some-requires
-is-some-requires c κs = search needs
-
 returns : tie.Need-returns
 unfolding countsOf
 returns c = rw (c .is-some .ensures, eq-eqb _ _ (c .before .if1 .taken))
-
-sub-input : tie.Need-sub-input
-sub-input c = search needs
-
-bit-at-requires : tie.Need-bit-at-requires
-bit-at-requires c κs = search needs
 
 returns-2 : tie.Need-returns-2
 unfolding countsOf
@@ -27,12 +18,6 @@ returns-2 c =
       le-leb _ _ (c .before .if2 .taken),
       ne-eqb _ _ (c .before .before .if1 .left),
     )
-
-is-some-requires-2 : tie.Need-is-some-requires-2
-is-some-requires-2 c κs = search needs
-
-is-some-requires-3 : tie.Need-is-some-requires-3
-is-some-requires-3 c κs = search needs
 
 returns-3 : tie.Need-returns-3
 unfolding countsOf
@@ -45,9 +30,6 @@ returns-3 c =
       ne-eqb _ _ (c .before .before .before .before .if1 .left),
     )
 
-is-some-requires-4 : tie.Need-is-some-requires-4
-is-some-requires-4 c κs = search needs
-
 returns-4 : tie.Need-returns-4
 unfolding countsOf
 returns-4 c =
@@ -58,9 +40,6 @@ returns-4 c =
       lt-leb _ _ (c .before .before .before .if2 .left),
       ne-eqb _ _ (c .before .before .before .before .if1 .left),
     )
-
-is-some-requires-5 : tie.Need-is-some-requires-5
-is-some-requires-5 c κs = search needs
 
 returns-5 : tie.Need-returns-5
 unfolding countsOf
@@ -131,17 +110,17 @@ pub counts-spec : {M : Type 1} → statement M
 counts-spec =
     tie.close
     (tie.spec
-    is-some-requires
+    (λ c κs. search needs)
     returns
-    sub-input
-    bit-at-requires
+    (λ c. search needs)
+    (λ c κs. search needs)
     returns-2
-    is-some-requires-2
-    is-some-requires-3
+    (λ c κs. search needs)
+    (λ c κs. search needs)
     returns-3
-    is-some-requires-4
+    (λ c κs. search needs)
     returns-4
-    is-some-requires-5
+    (λ c κs. search needs)
     returns-5
     returns-6
     returns-7

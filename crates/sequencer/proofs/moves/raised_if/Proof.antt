@@ -7,8 +7,5 @@ use Rattle.sequencer.proofs.moves.raised_if.Tie as tie
 returns : tie.Need-returns
 returns c = rw (c .if1 .taken)
 
-returns-2 : tie.Need-returns-2
-returns-2 c = search needs
-
 pub raised-if-spec : {M : Type 1} → statement M
-raised-if-spec = tie.close (tie.spec returns returns-2)
+raised-if-spec = tie.close (tie.spec returns (λ c. search needs))

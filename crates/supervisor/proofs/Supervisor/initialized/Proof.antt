@@ -5,15 +5,9 @@ use borrow.Author.Needs.{needs}
 use Rattle.supervisor.proofs.Supervisor.initialized.Statement.{statement}
 use Rattle.supervisor.proofs.Supervisor.initialized.Tie as tie
 
-initialized-requires : tie.Need-initialized-requires
-initialized-requires c κs = search needs
-
-fresh-requires : tie.Need-fresh-requires
-fresh-requires c κs = search needs
-
 returns : tie.Need-returns
 unfolding initializedOf freshOf
 returns c = rw (c .fresh .ensures, c .before .initialized .ensures)
 
 pub initialized-spec : {M : Type 1} → statement M
-initialized-spec = tie.close (tie.spec initialized-requires fresh-requires returns)
+initialized-spec = tie.close (tie.spec (λ c κs. search needs) (λ c κs. search needs) returns)

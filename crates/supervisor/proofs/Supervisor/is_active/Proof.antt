@@ -5,15 +5,9 @@ use borrow.Author.Needs.{needs}
 use Rattle.supervisor.proofs.Supervisor.is_active.Statement.{statement}
 use Rattle.supervisor.proofs.Supervisor.is_active.Tie as tie
 
-is-active-requires : tie.Need-is-active-requires
-is-active-requires c κs = search needs
-
-is-quiet-requires : tie.Need-is-quiet-requires
-is-quiet-requires c κs = search needs
-
 returns : tie.Need-returns
 unfolding isActiveOf
 returns c = rw (c .is-quiet .ensures, c .before .is-active .ensures)
 
 pub is-active-spec : {M : Type 1} → statement M
-is-active-spec = tie.close (tie.spec is-active-requires is-quiet-requires returns)
+is-active-spec = tie.close (tie.spec (λ c κs. search needs) (λ c κs. search needs) returns)

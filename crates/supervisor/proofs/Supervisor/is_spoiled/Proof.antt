@@ -5,15 +5,6 @@ use borrow.Author.Needs.{needs}
 use Rattle.supervisor.proofs.Supervisor.is_spoiled.Statement.{statement}
 use Rattle.supervisor.proofs.Supervisor.is_spoiled.Tie as tie
 
-allows-eight-requires : tie.Need-allows-eight-requires
-allows-eight-requires c κs = search needs
-
-is-well-formed-requires : tie.Need-is-well-formed-requires
-is-well-formed-requires c κs = search needs
-
-is-sound-requires : tie.Need-is-sound-requires
-is-sound-requires c κs = search needs
-
 returns : tie.Need-returns
 unfolding isSpoiledOf
 returns c =
@@ -25,4 +16,4 @@ returns c =
 
 pub is-spoiled-spec : {M : Type 1} → statement M
 is-spoiled-spec =
-    tie.close (tie.spec allows-eight-requires is-well-formed-requires is-sound-requires returns)
+    tie.close (tie.spec (λ c κs. search needs) (λ c κs. search needs) (λ c κs. search needs) returns)

@@ -5,18 +5,9 @@ use borrow.Author.Needs.{needs}
 use Rattle.supervisor.proofs.Supervisor.ticked.Statement.{statement}
 use Rattle.supervisor.proofs.Supervisor.ticked.Tie as tie
 
-core-step-requires : tie.Need-core-step-requires
-core-step-requires c κs = search needs
-
-readout-step-requires : tie.Need-readout-step-requires
-readout-step-requires c κs = search needs
-
-joined-requires : tie.Need-joined-requires
-joined-requires c κs = search needs
-
 returns : tie.Need-returns
 unfolding tickedOf
 returns c = rw (c .joined .ensures, c .before .readout-step .ensures, c .before .before .core-step .ensures)
 
 pub ticked-spec : {M : Type 1} → statement M
-ticked-spec = tie.close (tie.spec core-step-requires readout-step-requires joined-requires returns)
+ticked-spec = tie.close (tie.spec (λ c κs. search needs) (λ c κs. search needs) (λ c κs. search needs) returns)

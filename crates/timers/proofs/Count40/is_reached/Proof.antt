@@ -4,11 +4,8 @@ use borrow.Author.Needs.{needs}
 use Rattle.timers.proofs.Count40.is_reached.Statement.{statement}
 use Rattle.timers.proofs.Count40.is_reached.Tie as tie
 
-ticks-requires : tie.Need-ticks-requires
-ticks-requires c κs = search needs
-
 returns : tie.Need-returns
 returns c = rw (c .ticks .ensures)
 
 pub is-reached-spec : {M : Type 1} → statement M
-is-reached-spec = tie.close (tie.spec ticks-requires returns)
+is-reached-spec = tie.close (tie.spec (λ c κs. search needs) returns)

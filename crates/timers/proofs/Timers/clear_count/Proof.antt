@@ -4,9 +4,6 @@ use borrow.Author.Needs.{needs}
 use Rattle.timers.proofs.Timers.clear_count.Statement.{statement}
 use Rattle.timers.proofs.Timers.clear_count.Tie as tie
 
-ticks-requires : tie.Need-ticks-requires
-ticks-requires c κs = search needs
-
 returns : tie.Need-returns
 returns c = rw (← c .before .ticks .ensures, c .if1 .taken)
 
@@ -14,4 +11,4 @@ returns-2 : tie.Need-returns-2
 returns-2 c = rw (← c .before .ticks .ensures, c .if1 .left)
 
 pub clear-count-spec : {M : Type 1} → statement M
-clear-count-spec = tie.close (tie.spec ticks-requires returns returns-2)
+clear-count-spec = tie.close (tie.spec (λ c κs. search needs) returns returns-2)

@@ -4,11 +4,8 @@ use borrow.Author.Needs.{needs}
 use Rattle.timers.proofs.Timers.front_test.Statement.{statement}
 use Rattle.timers.proofs.Timers.front_test.Tie as tie
 
-is-reached-requires : tie.Need-is-reached-requires
-is-reached-requires c κs = search needs
-
 returns : tie.Need-returns
 returns c = rw (c .is-reached .ensures)
 
 pub front-test-spec : {M : Type 1} → statement M
-front-test-spec = tie.close (tie.spec is-reached-requires returns)
+front-test-spec = tie.close (tie.spec (λ c κs. search needs) returns)

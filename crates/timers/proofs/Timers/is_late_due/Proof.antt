@@ -4,11 +4,8 @@ use borrow.Author.Needs.{needs}
 use Rattle.timers.proofs.Timers.is_late_due.Statement.{statement}
 use Rattle.timers.proofs.Timers.is_late_due.Tie as tie
 
-is-reached-requires : tie.Need-is-reached-requires
-is-reached-requires c κs = search needs
-
 returns : tie.Need-returns
 returns c = rw (c .is-reached .ensures)
 
 pub is-late-due-spec : {M : Type 1} → statement M
-is-late-due-spec = tie.close (tie.spec is-reached-requires returns)
+is-late-due-spec = tie.close (tie.spec (λ c κs. search needs) returns)

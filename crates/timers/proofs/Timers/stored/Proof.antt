@@ -6,22 +6,13 @@ use borrow.Author.Needs.{needs}
 use Rattle.timers.proofs.Timers.stored.Statement.{statement}
 use Rattle.timers.proofs.Timers.stored.Tie as tie
 
-cast-result : tie.Need-cast-result
-cast-result c = search needs
-
 returns : tie.Need-returns
 unfolding storedOf
 returns c = rw (eq-eqb _ _ (c .before .if1 .taken))
 
-cast-result-2 : tie.Need-cast-result-2
-cast-result-2 c = search needs
-
 returns-2 : tie.Need-returns-2
 unfolding storedOf
 returns-2 c = rw (eq-eqb _ _ (c .before .if2 .taken), ne-eqb _ _ (c .before .before .if1 .left))
-
-cast-result-3 : tie.Need-cast-result-3
-cast-result-3 c = search needs
 
 returns-3 : tie.Need-returns-3
 unfolding storedOf
@@ -32,9 +23,6 @@ returns-3 c =
       ne-eqb _ _ (c .before .before .before .if1 .left),
     )
 
-cast-result-4 : tie.Need-cast-result-4
-cast-result-4 c = search needs
-
 returns-4 : tie.Need-returns-4
 unfolding storedOf
 returns-4 c =
@@ -44,9 +32,6 @@ returns-4 c =
       ne-eqb _ _ (c .before .before .before .if2 .left),
       ne-eqb _ _ (c .before .before .before .before .if1 .left),
     )
-
-cast-result-5 : tie.Need-cast-result-5
-cast-result-5 c = search needs
 
 returns-5 : tie.Need-returns-5
 unfolding storedOf
@@ -62,13 +47,13 @@ pub stored-spec : {M : Type 1} → statement M
 stored-spec =
     tie.close
     (tie.spec
-    cast-result
+    (λ c. search needs)
     returns
-    cast-result-2
+    (λ c. search needs)
     returns-2
-    cast-result-3
+    (λ c. search needs)
     returns-3
-    cast-result-4
+    (λ c. search needs)
     returns-4
-    cast-result-5
+    (λ c. search needs)
     returns-5)

@@ -6,12 +6,6 @@ use borrow.Author.Needs.{needs}
 use Rattle.timers.proofs.Timers.written.Statement.{statement}
 use Rattle.timers.proofs.Timers.written.Tie as tie
 
-cast-t8 : tie.Need-cast-t8
-cast-t8 c = search needs
-
-cast-t9 : tie.Need-cast-t9
-cast-t9 c = search needs
-
 returns : tie.Need-returns
 unfolding writtenOf
 returns c = rw (eq-eqb _ _ (c .if1 .taken))
@@ -50,4 +44,4 @@ returns-5 c =
     )
 
 pub written-spec : {M : Type 1} → statement M
-written-spec = tie.close (tie.spec cast-t8 cast-t9 returns returns-2 returns-3 returns-4 returns-5)
+written-spec = tie.close (tie.spec (λ c. search needs) (λ c. search needs) returns returns-2 returns-3 returns-4 returns-5)

@@ -8,9 +8,6 @@ use Rattle.registers.proofs.ControlLaws.{counted-when-open, counted-whe
 use Rattle.registers.proofs.control.Control.counted.Statement.{statement}
 use Rattle.registers.proofs.control.Control.counted.Tie as tie
 
-is-strobe-mode-requires : tie.Need-is-strobe-mode-requires
-is-strobe-mode-requires c κs = search needs
-
 returns : tie.Need-returns
 returns c =
     let a = c .before .before .before .args in
@@ -24,4 +21,4 @@ returns-2 c =
     counted-when-shut (a .strobe) (a .triggers) (a .self) (mode ∙ c .if1 .left)
 
 pub counted-spec : {M : Type 1} → statement M
-counted-spec = tie.close (tie.spec is-strobe-mode-requires returns returns-2)
+counted-spec = tie.close (tie.spec (λ c κs. search needs) returns returns-2)

@@ -5,9 +5,6 @@ use borrow.Author.Needs.{needs}
 use Rattle.registers.proofs.csr.Csr.sync_hold_ended_if.Statement.{statement}
 use Rattle.registers.proofs.csr.Csr.sync_hold_ended_if.Tie as tie
 
-sync-hold-ended-requires : tie.Need-sync-hold-ended-requires
-sync-hold-ended-requires c κs = search needs
-
 returns : tie.Need-returns
 unfolding syncHoldEndedIfOf
 returns c = rw (c .sync-hold-ended .ensures, c .before .if1 .taken)
@@ -17,4 +14,4 @@ unfolding syncHoldEndedIfOf
 returns-2 c = rw (c .if1 .left)
 
 pub sync-hold-ended-if-spec : {M : Type 1} → statement M
-sync-hold-ended-if-spec = tie.close (tie.spec sync-hold-ended-requires returns returns-2)
+sync-hold-ended-if-spec = tie.close (tie.spec (λ c κs. search needs) returns returns-2)

@@ -5,9 +5,6 @@ use borrow.Author.Needs.{needs}
 use Rattle.registers.proofs.csr.Csr.user_sync_ended_if.Statement.{statement}
 use Rattle.registers.proofs.csr.Csr.user_sync_ended_if.Tie as tie
 
-user-sync-ended-requires : tie.Need-user-sync-ended-requires
-user-sync-ended-requires c κs = search needs
-
 returns : tie.Need-returns
 unfolding userSyncEndedIfOf
 returns c = rw (c .user-sync-ended .ensures, c .before .if1 .taken)
@@ -17,4 +14,4 @@ unfolding userSyncEndedIfOf
 returns-2 c = rw (c .if1 .left)
 
 pub user-sync-ended-if-spec : {M : Type 1} → statement M
-user-sync-ended-if-spec = tie.close (tie.spec user-sync-ended-requires returns returns-2)
+user-sync-ended-if-spec = tie.close (tie.spec (λ c κs. search needs) returns returns-2)

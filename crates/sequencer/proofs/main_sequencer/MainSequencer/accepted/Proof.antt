@@ -6,18 +6,6 @@ use borrow.Author.Needs.{needs}
 use Rattle.sequencer.proofs.main_sequencer.MainSequencer.accepted.Statement.{statement}
 use Rattle.sequencer.proofs.main_sequencer.MainSequencer.accepted.Tie as tie
 
-class-in-requires : tie.Need-class-in-requires
-class-in-requires c κs = search needs
-
-code-in-requires : tie.Need-code-in-requires
-code-in-requires c κs = search needs
-
-accept-in-requires : tie.Need-accept-in-requires
-accept-in-requires c κs = search needs
-
-with-state-requires : tie.Need-with-state-requires
-with-state-requires c κs = search needs
-
 returns : tie.Need-returns
 unfolding acceptedOf
 returns c =
@@ -28,9 +16,6 @@ returns c =
       ← c .before .before .before .before .before .class-in .ensures,
       eq-eqb _ _ (c .before .if1 .taken),
     )
-
-with-state-requires-2 : tie.Need-with-state-requires-2
-with-state-requires-2 c κs = search needs
 
 returns-2 : tie.Need-returns-2
 unfolding acceptedOf
@@ -47,10 +32,10 @@ pub accepted-spec : {M : Type 1} → statement M
 accepted-spec =
     tie.close
     (tie.spec
-    class-in-requires
-    code-in-requires
-    accept-in-requires
-    with-state-requires
+    (λ c κs. search needs)
+    (λ c κs. search needs)
+    (λ c κs. search needs)
+    (λ c κs. search needs)
     returns
-    with-state-requires-2
+    (λ c κs. search needs)
     returns-2)

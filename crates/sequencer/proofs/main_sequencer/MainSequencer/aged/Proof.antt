@@ -6,18 +6,9 @@ use borrow.Author.Needs.{needs}
 use Rattle.sequencer.proofs.main_sequencer.MainSequencer.aged.Statement.{statement}
 use Rattle.sequencer.proofs.main_sequencer.MainSequencer.aged.Tie as tie
 
-with-state-requires : tie.Need-with-state-requires
-with-state-requires c κs = search needs
-
-is-idle-requires : tie.Need-is-idle-requires
-is-idle-requires c κs = search needs
-
 returns : tie.Need-returns
 unfolding agedOf
 returns c = rw (c .before .before .with-state .ensures, ← c .before .is-idle .ensures, c .if1 .taken)
-
-add-next : tie.Need-add-next
-add-next c = search needs
 
 returns-2 : tie.Need-returns-2
 unfolding agedOf
@@ -41,4 +32,4 @@ returns-3 c =
 
 pub aged-spec : {M : Type 1} → statement M
 aged-spec =
-    tie.close (tie.spec with-state-requires is-idle-requires returns add-next returns-2 returns-3)
+    tie.close (tie.spec (λ c κs. search needs) (λ c κs. search needs) returns (λ c. search needs) returns-2 returns-3)

@@ -4,11 +4,8 @@ use borrow.Author.Needs.{needs}
 use Rattle.sequencer.proofs.main_sequencer.MainSequencer.failed.Statement.{statement}
 use Rattle.sequencer.proofs.main_sequencer.MainSequencer.failed.Tie as tie
 
-with-state-requires : tie.Need-with-state-requires
-with-state-requires c κs = search needs
-
 returns : tie.Need-returns
 returns c = rw (c .with-state .ensures)
 
 pub failed-spec : {M : Type 1} → statement M
-failed-spec = tie.close (tie.spec with-state-requires returns)
+failed-spec = tie.close (tie.spec (λ c κs. search needs) returns)

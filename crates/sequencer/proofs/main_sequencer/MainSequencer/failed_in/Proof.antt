@@ -4,17 +4,11 @@ use borrow.Author.Needs.{needs}
 use Rattle.sequencer.proofs.main_sequencer.MainSequencer.failed_in.Statement.{statement}
 use Rattle.sequencer.proofs.main_sequencer.MainSequencer.failed_in.Tie as tie
 
-failed-late-requires : tie.Need-failed-late-requires
-failed-late-requires c κs = search needs
-
 returns : tie.Need-returns
 returns c = rw (c .failed-late .ensures, c .before .if1 .taken)
-
-failed-requires : tie.Need-failed-requires
-failed-requires c κs = search needs
 
 returns-2 : tie.Need-returns-2
 returns-2 c = rw (c .failed .ensures, c .before .if1 .left)
 
 pub failed-in-spec : {M : Type 1} → statement M
-failed-in-spec = tie.close (tie.spec failed-late-requires returns failed-requires returns-2)
+failed-in-spec = tie.close (tie.spec (λ c κs. search needs) returns (λ c κs. search needs) returns-2)

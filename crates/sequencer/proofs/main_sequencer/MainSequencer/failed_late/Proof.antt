@@ -4,14 +4,8 @@ use borrow.Author.Needs.{needs}
 use Rattle.sequencer.proofs.main_sequencer.MainSequencer.failed_late.Statement.{statement}
 use Rattle.sequencer.proofs.main_sequencer.MainSequencer.failed_late.Tie as tie
 
-with-state-requires : tie.Need-with-state-requires
-with-state-requires c κs = search needs
-
-quiet-step-requires : tie.Need-quiet-step-requires
-quiet-step-requires c κs = search needs
-
 returns : tie.Need-returns
 returns c = rw (c .quiet-step .ensures, c .before .with-state .ensures)
 
 pub failed-late-spec : {M : Type 1} → statement M
-failed-late-spec = tie.close (tie.spec with-state-requires quiet-step-requires returns)
+failed-late-spec = tie.close (tie.spec (λ c κs. search needs) (λ c κs. search needs) returns)

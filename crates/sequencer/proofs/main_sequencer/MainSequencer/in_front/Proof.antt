@@ -4,15 +4,6 @@ use borrow.Author.Needs.{needs}
 use Rattle.sequencer.proofs.main_sequencer.MainSequencer.in_front.Statement.{statement}
 use Rattle.sequencer.proofs.main_sequencer.MainSequencer.in_front.Tie as tie
 
-word-requires : tie.Need-word-requires
-word-requires c κs = search needs
-
-after-load-requires : tie.Need-after-load-requires
-after-load-requires c κs = search needs
-
-with-state-requires : tie.Need-with-state-requires
-with-state-requires c κs = search needs
-
 returns : tie.Need-returns
 returns c =
     rw (
@@ -22,9 +13,6 @@ returns c =
       c .before .before .before .if1 .taken,
     )
 
-quiet-step-requires : tie.Need-quiet-step-requires
-quiet-step-requires c κs = search needs
-
 returns-2 : tie.Need-returns-2
 returns-2 c = rw (c .quiet-step .ensures, c .before .if1 .left)
 
@@ -32,9 +20,9 @@ pub in-front-spec : {M : Type 1} → statement M
 in-front-spec =
     tie.close
     (tie.spec
-    word-requires
-    after-load-requires
-    with-state-requires
+    (λ c κs. search needs)
+    (λ c κs. search needs)
+    (λ c κs. search needs)
     returns
-    quiet-step-requires
+    (λ c κs. search needs)
     returns-2)

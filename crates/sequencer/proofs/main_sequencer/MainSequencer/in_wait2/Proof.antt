@@ -10,24 +10,12 @@ use Rattle.sequencer.proofs.SequencerChoices.{fails2-by-choice}
 use Rattle.sequencer.proofs.main_sequencer.MainSequencer.in_wait2.Statement.{statement}
 use Rattle.sequencer.proofs.main_sequencer.MainSequencer.in_wait2.Tie as tie
 
-failed-in-requires : tie.Need-failed-in-requires
-failed-in-requires c κs = search needs
-
 returns : tie.Need-returns
 returns c =
     let a = c .before .before .args in
     let t = a .t in
     let m = a .self in
     ap (withFailed2 true) (c .failed-in .ensures) ∙ fails2-by-choice (t .fail2) (t .late) (t .pass2) (eqb (m .class) 2) t m (c .before .if1 .taken)
-
-with-raised-requires : tie.Need-with-raised-requires
-with-raised-requires c κs = search needs
-
-with-state-requires : tie.Need-with-state-requires
-with-state-requires c κs = search needs
-
-quiet-step-requires : tie.Need-quiet-step-requires
-quiet-step-requires c κs = search needs
 
 returns-2 : tie.Need-returns-2
 returns-2 c =
@@ -40,15 +28,6 @@ returns-2 c =
       c .before .before .before .before .before .before .before .if1 .left,
     )
 
-with-raised-requires-2 : tie.Need-with-raised-requires-2
-with-raised-requires-2 c κs = search needs
-
-with-state-requires-2 : tie.Need-with-state-requires-2
-with-state-requires-2 c κs = search needs
-
-quiet-step-requires-2 : tie.Need-quiet-step-requires-2
-quiet-step-requires-2 c κs = search needs
-
 returns-3 : tie.Need-returns-3
 returns-3 c =
     rw (
@@ -60,9 +39,6 @@ returns-3 c =
       c .before .before .before .before .before .before .before .if1 .left,
     )
 
-quiet-step-requires-3 : tie.Need-quiet-step-requires-3
-quiet-step-requires-3 c κs = search needs
-
 returns-4 : tie.Need-returns-4
 returns-4 c = rw (c .quiet-step3 .ensures, c .before .if2 .left, c .before .before .if1 .left)
 
@@ -70,15 +46,15 @@ pub in-wait2-spec : {M : Type 1} → statement M
 in-wait2-spec =
     tie.close
     (tie.spec
-    failed-in-requires
+    (λ c κs. search needs)
     returns
-    with-raised-requires
-    with-state-requires
-    quiet-step-requires
+    (λ c κs. search needs)
+    (λ c κs. search needs)
+    (λ c κs. search needs)
     returns-2
-    with-raised-requires-2
-    with-state-requires-2
-    quiet-step-requires-2
+    (λ c κs. search needs)
+    (λ c κs. search needs)
+    (λ c κs. search needs)
     returns-3
-    quiet-step-requires-3
+    (λ c κs. search needs)
     returns-4)

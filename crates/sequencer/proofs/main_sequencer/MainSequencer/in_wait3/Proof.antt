@@ -8,24 +8,12 @@ use Rattle.sequencer.proofs.SequencerChoices.{fails3-by-choice}
 use Rattle.sequencer.proofs.main_sequencer.MainSequencer.in_wait3.Statement.{statement}
 use Rattle.sequencer.proofs.main_sequencer.MainSequencer.in_wait3.Tie as tie
 
-failed-in-requires : tie.Need-failed-in-requires
-failed-in-requires c κs = search needs
-
 returns : tie.Need-returns
 returns c =
     let a = c .before .before .args in
     let t = a .t in
     let m = a .self in
     ap (withFailed3 true) (c .failed-in .ensures) ∙ fails3-by-choice (t .fail3) (t .late) (t .pass3) t m (c .before .if1 .taken)
-
-with-raised-requires : tie.Need-with-raised-requires
-with-raised-requires c κs = search needs
-
-with-state-requires : tie.Need-with-state-requires
-with-state-requires c κs = search needs
-
-quiet-step-requires : tie.Need-quiet-step-requires
-quiet-step-requires c κs = search needs
 
 returns-2 : tie.Need-returns-2
 returns-2 c =
@@ -37,9 +25,6 @@ returns-2 c =
       c .before .before .before .before .before .if1 .left,
     )
 
-quiet-step-requires-2 : tie.Need-quiet-step-requires-2
-quiet-step-requires-2 c κs = search needs
-
 returns-3 : tie.Need-returns-3
 returns-3 c = rw (c .quiet-step2 .ensures, c .before .if2 .left, c .before .before .if1 .left)
 
@@ -47,11 +32,11 @@ pub in-wait3-spec : {M : Type 1} → statement M
 in-wait3-spec =
     tie.close
     (tie.spec
-    failed-in-requires
+    (λ c κs. search needs)
     returns
-    with-raised-requires
-    with-state-requires
-    quiet-step-requires
+    (λ c κs. search needs)
+    (λ c κs. search needs)
+    (λ c κs. search needs)
     returns-2
-    quiet-step-requires-2
+    (λ c κs. search needs)
     returns-3)

@@ -7,15 +7,9 @@ use Rattle.sequencer.proofs.main_sequencer.MainSequencer.is_well_formed
 }
 use Rattle.sequencer.proofs.main_sequencer.MainSequencer.is_well_formed.Tie as tie
 
-is-wait2-requires : tie.Need-is-wait2-requires
-is-wait2-requires c κs = search needs
-
-is-class-of-wait2-requires : tie.Need-is-class-of-wait2-requires
-is-class-of-wait2-requires c κs = search needs
-
 returns : tie.Need-returns
 unfolding isWellFormedOf
 returns c = rw (c .before .is-class-of-wait2 .ensures, c .before .before .is-wait2 .ensures)
 
 pub is-well-formed-spec : {M : Type 1} → statement M
-is-well-formed-spec = tie.close (tie.spec is-wait2-requires is-class-of-wait2-requires returns)
+is-well-formed-spec = tie.close (tie.spec (λ c κs. search needs) (λ c κs. search needs) returns)

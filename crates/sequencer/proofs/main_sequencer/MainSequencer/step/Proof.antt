@@ -8,54 +8,6 @@ use Rattle.sequencer.proofs.SequencerChoices.{step-by-state}
 use Rattle.sequencer.proofs.main_sequencer.MainSequencer.step.Statement.{statement}
 use Rattle.sequencer.proofs.main_sequencer.MainSequencer.step.Tie as tie
 
-enum-told : tie.Need-enum-told
-enum-told c = search needs
-
-quiet-step-requires : tie.Need-quiet-step-requires
-quiet-step-requires c κs = search needs
-
-enum-told-2 : tie.Need-enum-told-2
-enum-told-2 c = search needs
-
-in-delay-requires : tie.Need-in-delay-requires
-in-delay-requires c κs = search needs
-
-enum-told-3 : tie.Need-enum-told-3
-enum-told-3 c = search needs
-
-in-wait2-requires : tie.Need-in-wait2-requires
-in-wait2-requires c κs = search needs
-
-enum-told-4 : tie.Need-enum-told-4
-enum-told-4 c = search needs
-
-in-wait3-requires : tie.Need-in-wait3-requires
-in-wait3-requires c κs = search needs
-
-enum-told-5 : tie.Need-enum-told-5
-enum-told-5 c = search needs
-
-in-front-requires : tie.Need-in-front-requires
-in-front-requires c κs = search needs
-
-enum-told-6 : tie.Need-enum-told-6
-enum-told-6 c = search needs
-
-in-space-requires : tie.Need-in-space-requires
-in-space-requires c κs = search needs
-
-enum-told-7 : tie.Need-enum-told-7
-enum-told-7 c = search needs
-
-in-sync-hold-requires : tie.Need-in-sync-hold-requires
-in-sync-hold-requires c κs = search needs
-
-enum-told-8 : tie.Need-enum-told-8
-enum-told-8 c = search needs
-
-in-clear-requires : tie.Need-in-clear-requires
-in-clear-requires c κs = search needs
-
 returns : tie.Need-returns
 returns c =
     let a = c .before .before .before .args in
@@ -100,22 +52,22 @@ pub step-spec : {M : Type 1} → statement M
 step-spec =
     tie.close
     (tie.spec
-    enum-told
-    quiet-step-requires
-    enum-told-2
-    in-delay-requires
-    enum-told-3
-    in-wait2-requires
-    enum-told-4
-    in-wait3-requires
-    enum-told-5
-    in-front-requires
-    enum-told-6
-    in-space-requires
-    enum-told-7
-    in-sync-hold-requires
-    enum-told-8
-    in-clear-requires
+    (λ c. search needs)
+    (λ c κs. search needs)
+    (λ c. search needs)
+    (λ c κs. search needs)
+    (λ c. search needs)
+    (λ c κs. search needs)
+    (λ c. search needs)
+    (λ c κs. search needs)
+    (λ c. search needs)
+    (λ c κs. search needs)
+    (λ c. search needs)
+    (λ c κs. search needs)
+    (λ c. search needs)
+    (λ c κs. search needs)
+    (λ c. search needs)
+    (λ c κs. search needs)
     returns
     returns-2
     returns-3
