@@ -1,6 +1,5 @@
 // Numbers of an answer. An answer is 8: 0 or the number of the decline; the value read; the masks by two, and the last
 // with the lines out; outcome; finished words; shown words.
-use crate::record_out::wide;
 use branch::Slot;
 use branches::Side;
 use calls::Decline;
@@ -9,6 +8,7 @@ use calls::Reading;
 use calls::TickDone;
 use calls::Verdict;
 use calls::WriteDone;
+use numbers::record_out::wide;
 use sequencer::states::Outcome;
 use supervisor::Supervisor;
 

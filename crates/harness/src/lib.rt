@@ -2,21 +2,19 @@
 // answers and the next record come out. No contract is made here; the functions are proved safe and ending.
 use core::lines::Inputs;
 use core::lines::Lines;
+use numbers::record_in::number_at;
+use numbers::record_in::record_in;
+use numbers::record_out::put_eight;
+use numbers::record_out::put_record;
 use supervisor::Supervisor;
 
 mod answer;
-mod record_in;
-mod record_out;
 
 use answer::Reply;
 use answer::fresh_reply;
 use answer::read_reply;
 use answer::tick_reply;
 use answer::write_reply;
-use record_in::number_at;
-use record_in::record_in;
-use record_out::put_eight;
-use record_out::put_record;
 
 // A call is 4 numbers: its kind and its arguments.
 const CALL_NUMBERS: usize = 4;

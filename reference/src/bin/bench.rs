@@ -8,17 +8,26 @@ use std::hint::black_box;
 use std::process::ExitCode;
 use std::time::Instant;
 
-/// Inputs of the table; the registers 0–19 stand after them.
+/// Inputs of the table; after them stand the registers 0–19 and the counters, the first numbers of a record.
 const INPUTS: usize = 16_384;
 
 extern "C" {
-    fn run_ticks(n: u64, memory: *const u16, memory_len: usize, table: *const u64, table_len: usize) -> u64;
+    fn run_ticks(
+        n: u64,
+        memory: *const u16,
+        memory_len: usize,
+        table: *const u64,
+        table_len: usize,
+        record: *const u64,
+        record_len: usize,
+    ) -> u64;
 }
 
 #[inline(never)]
 fn proved_ticks(n: u64, memory: &[u16], table: &[u64]) -> u64 {
+    let (inputs, record) = table.split_at(INPUTS);
     // SAFETY: each pointer goes with the length of its slice, and `run_ticks` has no `requires`.
-    unsafe { run_ticks(n, memory.as_ptr(), memory.len(), table.as_ptr(), table.len()) }
+    unsafe { run_ticks(n, memory.as_ptr(), memory.len(), inputs.as_ptr(), inputs.len(), record.as_ptr(), record.len()) }
 }
 
 // ---- the same loop over the model
@@ -149,10 +158,17 @@ fn memory() -> Vec<u16> {
         .collect()
 }
 
+/// The inputs with a record after them: these registers, every counter loaded, and all else 0.
+fn with_record(mut table: Vec<u64>, registers: [u64; 20]) -> Vec<u64> {
+    table.extend(registers);
+    table.extend(&registers[2..10]);
+    table
+}
+
 fn table(traffic: Traffic) -> Vec<u64> {
     let mut random = Random(0xFEDC_BA98_7654_3211);
     let mut high = false;
-    let mut table: Vec<u64> = (0..INPUTS)
+    let table: Vec<u64> = (0..INPUTS)
         .map(|_| {
             let triggers = if random.chance(traffic.pulses) { random.next() & random.next() & 0xFFF } else { 0 };
             let mut lines = 1;
@@ -189,8 +205,7 @@ fn table(traffic: Traffic) -> Vec<u64> {
         0,
         0x0E,
     ];
-    table.extend(registers);
-    table
+    with_record(table, registers)
 }
 
 /// Events in the first ticks, as many as words are to be held, and then nothing; no acknowledge comes.
@@ -199,8 +214,7 @@ fn holding(words: usize) -> Vec<u64> {
     for event in 0..words {
         table[event * 16] = 1;
     }
-    table.extend([1, 0x1FFE, 0, 0, 0, 0, 0, 0, 0, 0, 0x0101_0101, 0, 0, 0, 0, 0, 0, 0, 0, 0]);
-    table
+    with_record(table, [1, 0x1FFE, 0, 0, 0, 0, 0, 0, 0, 0, 0x0101_0101, 0, 0, 0, 0, 0, 0, 0, 0, 0])
 }
 
 // ---- measuring

@@ -1,4 +1,4 @@
-//! The machines as the comparison sees them: records, calls and replies are numbers, laid out as in crates/harness.
+//! The machines as the comparison sees them: records, calls and replies are numbers, laid out as in crates/numbers and crates/harness.
 
 /// Registers 0–19, counters, main, sync count, user sync, then three numbers for each branch.
 pub const RECORD: usize = 50;
