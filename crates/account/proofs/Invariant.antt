@@ -71,6 +71,8 @@ pub record Follows (branches : ℕ) (r : Followed) (a : Account) : Type 0 where
   pub events : a .events .accepted ≡ a .events .cleared + a .events .loaded + oneIfOf (a .events .undecided)
   -- needed by the same: main holds the undecided event
   pub decides : a .events .undecided ≡ isUndecided (r .state)
+  -- needed by every load
+  pub words : length (a .words) ≡ a .events .loaded + a .events .tags
   -- needed by INITIALIZE, which makes as many branches
   pub number : length (r .branches) ≡ branches
   -- needed by every load and every finished word

@@ -80,6 +80,7 @@ invariant-implies-balanced s a v =
       pulses = v .pulses;
       events = v .events;
       decides = v .decides;
+      words = v .words;
       prescales = λ i h.
           rw (v .prescaling .factors i)
           (pass-count-divides (a .n i) (a .p i) (counterAt b i) (factorAt b i) (v .prescaling .count i h));

@@ -2,11 +2,11 @@
 --     ticked-keeps-invariant   on a record that is not spoiled
 -- Assumes nothing.
 use Prim.Native.Nat.{ℕ, _+_, _<_}
-use mathlib.Core.Path.{_≡_, sym, ap, _∙_}
+use mathlib.Core.Path.{_≡_, refl, sym, ap, _∙_}
 use mathlib.Core.Bool.{Bool, true, false}
 use mathlib.Core.List.{List, _++_, append-assoc}
 use native.Mathlib.Omega.{arith}
-use lib.ListN.{length, getD}
+use lib.ListN.{length, length-append, getD}
 use Rattle.bits.specs.Bits.{oneIfOf}
 use Rattle.registers.specs.Csr as csr
 use Rattle.registers.specs.Control.{inputs}
@@ -17,7 +17,9 @@ use Rattle.branches.specs.ReadoutFields.{branchAt}
 use Rattle.branches.specs.Readout as readout
 use Rattle.branches.specs.Readout.{noSide}
 use Rattle.branches.proofs.ReadoutLaws as branches
-use Rattle.sequencer.specs.States.{isUndecided, outcomeWords}
+use Rattle.sequencer.specs.States.{isUndecided, isEvent, isTag, outcomeWords}
+use Rattle.sequencer.specs.declared.states.Outcome.{Outcome}
+use Rattle.sequencer.specs.declared.states.Outcome.the-variants.{Nothing, Cleared, Event, Tag}
 use Rattle.scalers.specs.Scalers.{isSome}
 use Rattle.core.specs.Core as core
 use Rattle.core.specs.declared.lines.Inputs.{Inputs}
@@ -33,6 +35,13 @@ use Rattle.account.specs.AccountFields.{Events, Account}
 use Rattle.account.specs.Account.{countsIn, add, sumsAfter, undecidedAfter, eventsAfter, isUnstopped, isThrough}
 use Rattle.account.specs.Account.{afterTick}
 use Rattle.account.proofs.Invariant.{Prescaling, Ordering, AddsUp, Invariant}
+
+-- an event and a tag load one word, and nothing else loads any
+outcome-loads : (o : Outcome) → length (outcomeWords o) ≡ oneIfOf (isEvent o) + oneIfOf (isTag o)
+outcome-loads Nothing = refl
+outcome-loads Cleared = refl
+outcome-loads (Event w) = refl
+outcome-loads (Tag w) = refl
 
 -- ---- the tick, part by part
 
@@ -97,6 +106,13 @@ module _ (memory : List ℕ) (x : Inputs) (s : Supervisor) where
       let before : e .accepted ≡ e .cleared + e .loaded + oneIfOf (isUndecided state) = rw (← decides) events in
       rw (tick-decides e decides) (omega arith)
 
+  -- [Account.14] [Account.15]
+  tick-counts-words : (a : Account) → length (a .words) ≡ a .events .loaded + a .events .tags
+      → length (a .words ++ outcomeWords (answer .outcome))
+      ≡ eventsAfter answer (a .events) .loaded + eventsAfter answer (a .events) .tags
+  tick-counts-words a words =
+      rw (length-append (a .words) (outcomeWords (answer .outcome)), outcome-loads (answer .outcome)) (omega arith)
+
   -- ---- the branches: a word is loaded where no queue may hold eight
 
   module _ (clean : isSpoiledOf s ≡ false) where
@@ -145,6 +161,7 @@ module _ (memory : List ℕ) (x : Inputs) (s : Supervisor) where
           pulses = λ i h. tick-adds-up a (v .control) i h (v .pulses i h);
           events = tick-balances-events (a .events) (v .decides) (v .events);
           decides = tick-decides (a .events) (v .decides);
+          words = tick-counts-words a (v .words);
           number = branches.step-keeps-length (x .acks) (loadOf (step .outcome)) (s .readout) ∙ v .number;
           ordering = λ k h. tick-keeps-ordering k (rw (v .number) h) (a .finished k) (a .words) (v .ordering k h);
         }

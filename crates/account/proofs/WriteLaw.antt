@@ -60,6 +60,7 @@ fresh-has-invariant n =
       pulses = λ i h. refl;
       events = refl;
       decides = refl;
+      words = refl;
       number = readout.fresh-has-length n;
       ordering = λ k h. nothing-held _ (readout.fresh-holds-nothing n k h);
     }
@@ -116,6 +117,7 @@ module _ {branches : ℕ} (s : Supervisor) (a : Account) (v : Invariant branches
         pulses = λ i h. refl;
         events = refl;
         decides = refl;
+        words = refl;
         number = readout.emptied-keeps-length (s .readout) ∙ v .number;
         ordering = λ k h. nothing-held _ (readout.emptied-holds-nothing (s .readout) k (rw (v .number) h));
       }
@@ -135,6 +137,7 @@ module _ {branches : ℕ} (s : Supervisor) (a : Account) (v : Invariant branches
         pulses = v .pulses;
         events = v .events;
         decides = v .decides;
+        words = v .words;
         number = v .number;
         ordering = v .ordering;
       }
@@ -149,6 +152,7 @@ module _ {branches : ℕ} (s : Supervisor) (a : Account) (v : Invariant branches
         pulses = v .pulses;
         events = v .events;
         decides = v .decides;
+        words = v .words;
         number = v .number;
         ordering = v .ordering;
       }

@@ -2,13 +2,14 @@
 --
 -- Take any list of calls, refused ones among them, each lent any memory, made on a fresh supervisor of k branches. Let a
 -- bystander keep the account of the asks and replies. Then any branch, and so any two, share it with the bystander: the
--- words that a branch finished, followed by those it holds, are the words loaded, in their order, and it holds at most eight.
--- Every counted pulse of every input is in exactly one mask. Accepted events are cleared, loaded or the one undecided, and
--- main stands at Delay, Wait 2, Wait 3 or Front exactly when one is. Of n pulses n div (F + 1) pass.
+-- words that a branch finished, followed by those it holds, are the words loaded, in their order, one for each event loaded
+-- and each tag; and it holds at most eight. Every counted pulse of every input is in exactly one mask. Accepted events are
+-- cleared, loaded or the one undecided, and main stands at Delay, Wait 2, Wait 3 or Front exactly when one is. Of n pulses
+-- n div (F + 1) pass.
 --     document 01    "The account of demand 3"
 --     Balanced       the statement, of a record and an account
 --     Demand3        it holds after every list of calls
--- Own rules of 01 used here: none. Decisions: none. Left out: nothing.
+-- Own rules of 01 used here: none. Decisions: E1. Left out: nothing.
 -- Assumes nothing.
 use Prim.Native.Nat.{ℕ, _+_, _/_, _<_, _≤_}
 use mathlib.Core.Path.{_≡_}
@@ -34,6 +35,8 @@ pub record Balanced (branches : ℕ) (s : Supervisor) (a : Account) : Type 0 whe
   pub number : length (s .readout .branches) ≡ branches
   -- [Account.15] [Account.16] finished, then held, are the words loaded, in order
   pub order : (k : ℕ) → k < branches → a .finished k ++ heldAt s k ≡ a .words
+  -- [Account.14] [Account.15] one word for each event loaded and each tag
+  pub words : length (a .words) ≡ a .events .loaded + a .events .tags
   -- [Main.13] [Spoiled.1f] at most eight are held
   pub eight : (k : ℕ) → k < branches → length (heldAt s k) ≤ queueDepth
   -- [Account.11] each counted pulse is in exactly one mask

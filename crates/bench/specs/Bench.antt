@@ -11,13 +11,13 @@ use mathlib.Core.Bool.{Bool, true, false, _&&_}
 use mathlib.Core.List.{List, [], _∷_, _++_}
 use lib.Dec.{eqb}
 use lib.ListN.{length, take, drop}
-use Rattle.calls.specs.Answers.{Reply}
+use Rattle.calls.specs.Answers.{Reply, declineOrZero}
 use Rattle.calls.specs.Runs.{Ask}
 use Rattle.bench.specs.Asks.{csr, control, factor, rocEnable, interval, t1, enable, openPrescales}
 use Rattle.bench.specs.Asks.{go, enableSync, useT1, firstController, pass2, fail2}
 use Rattle.bench.specs.Asks.{write, store, pulse, lines, ticks, times, event, class1, class2}
 use Rattle.bench.specs.Sessions.{repliesTo, lost, rejected, passed, cleared, loaded, finished1}
-use Rattle.bench.specs.Sessions.{declineOrZero, decline}
+use Rattle.bench.specs.Sessions.{decline}
 
 -- ---- a row
 

@@ -19,7 +19,7 @@ use Rattle.sequencer.specs.declared.states.State.{State}
 use Rattle.supervisor.specs.Supervisor.{freshOf}
 use Rattle.supervisor.specs.declared.Supervisor.{Supervisor}
 use Rattle.supervisor.specs.declared.Answer.{Answer}
-use Rattle.calls.specs.Answers.{Reply, declined, done, value, ticked}
+use Rattle.calls.specs.Answers.{Reply, declined, done, value, ticked, declineOrZero}
 use Rattle.calls.specs.Runs.{Ask, Call, Entry, askOf, memoryAfter, zeroMemory, logOf, recordAfter}
 
 -- ---- a run over one memory
@@ -82,13 +82,7 @@ readOut done = []
 readOut (value v) = v ∷ []
 readOut (ticked a) = []
 
--- [Declines.1a] the number of a decline, and 0 where the call is carried out
-abbrev pub declineOrZero : Reply → ℕ
-declineOrZero (declined n) = n
-declineOrZero done = 0
-declineOrZero (value v) = 0
-declineOrZero (ticked a) = 0
-
+-- [Declines.1a]
 abbrev pub decline : Reply → List ℕ
 decline r = declineOrZero r ∷ []
 

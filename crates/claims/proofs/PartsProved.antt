@@ -8,7 +8,8 @@ use Rattle.sync.proofs.SyncLaws as sync
 use Rattle.sequencer.proofs.MainLaws as main
 use Rattle.branch.proofs.BranchLaws as branch
 use Rattle.claims.specs.Parts.{FactorFitsItsWidth, TimerFitsItsWidth, AssignDeclines40To4F, AssignDeclines60Up}
-use Rattle.claims.specs.Parts.{CsrBitAfterWrite, ClearWins, PulseHasOneFate, PulseKeepsPassCount, PassCountDivides}
+use Rattle.claims.specs.Parts.{CsrBitAfterWrite, ClearWins, PulseHasOneFate, LoadStartsPassCount}
+use Rattle.claims.specs.Parts.{PulseKeepsPassCount, PassCountDivides}
 use Rattle.claims.specs.Parts.{FirstPulseIsScaled, FailBeatsPass2, FailBeatsPass3, ToIdleZeroes, IntervalOneIsDue}
 use Rattle.claims.specs.Parts.{SyncLoadKeepsCount, UserSyncEndsExactly, BranchKeepsOrder, StrobeHasWord}
 use Rattle.claims.specs.Parts.{NoneEnabledIsHigh, NoneEnabledIsLow, IntervalFitsItsWidth, ControlFitsItsBits}
@@ -56,6 +57,9 @@ user-sync-ends-a-run = csr.user-sync-ended-at
 
 pub pulse-has-one-fate : PulseHasOneFate
 pulse-has-one-fate = prescaler.fate-is-one
+
+pub load-starts-pass-count : LoadStartsPassCount
+load-starts-pass-count = prescaler.loaded-has-pass-count
 
 pub pulse-keeps-pass-count : PulseKeepsPassCount
 pulse-keeps-pass-count = prescaler.pulse-keeps-pass-count

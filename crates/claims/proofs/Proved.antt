@@ -1,15 +1,18 @@
 -- Each claim of specs/Claims.antt, proved in one line by the theorem that it restates.
 -- Assumes nothing.
 use Rattle.branches.specs.Readout.{moduleBranches}
-use Rattle.calls.proofs.CallsLaws.{refusal-leaves, refusal-leaves-memory, spoiled-declines-all}
+use Rattle.calls.proofs.CallsLaws.{declines-in-order, refusal-leaves, refusal-leaves-memory, spoiled-declines-all}
 use Rattle.account.proofs.Theorem.{every-run-balances, any-two-branches}
 use Rattle.reach.proofs.Never.{call-keeps-unspoiled, never-spoiled}
 use Rattle.bench.proofs.Examples.{bench-examples}
 use Rattle.script.proofs.ScriptLaws.{lines-end, lines-append, answers-so-far, answer-is-line, answers-count}
-use Rattle.claims.specs.Claims.{RefusalLeavesRecord, RefusalLeavesMemory, SpoiledRecordRefuses, EveryRunBalances}
-use Rattle.claims.specs.Claims.{EveryRunBalancesAtAnySize, AnyTwoBranchesAgree, NoRunIsSpoiled}
+use Rattle.claims.specs.Claims.{RefusesInOrder, RefusalLeavesRecord, RefusalLeavesMemory, SpoiledRecordRefuses}
+use Rattle.claims.specs.Claims.{EveryRunBalances, EveryRunBalancesAtAnySize, AnyTwoBranchesAgree, NoRunIsSpoiled}
 use Rattle.claims.specs.Claims.{EveryCallKeepsUnspoiled, BenchExamples, LastNewlineMayLack}
 use Rattle.claims.specs.Claims.{AnswersDoNotLookAhead, LinesDoNotLookAhead, EveryAnswerIsOneLine, OneAnswerEachLine}
+
+pub refuses-in-order : RefusesInOrder
+refuses-in-order = declines-in-order
 
 pub refusal-leaves-record : RefusalLeavesRecord
 refusal-leaves-record = refusal-leaves

@@ -1,16 +1,18 @@
--- What is claimed of the trigger supervisor: every demand, and every promise beyond the demands, as one line under a
--- paragraph in document 01's terms. proofs/Proved.antt proves each by citing its theorem.
+-- What is claimed of the trigger supervisor: every demand, and every promise beyond the demands. What is no contract stands
+-- here as one line under a paragraph in document 01's terms; proofs/Proved.antt proves each by citing its theorem.
 --
--- The contracts of the public calls are proved in `calls` and, for fresh, in `supervisor`; each is an equality with the
--- definition named here, for every record, every memory of any length and every argument, and none has a `requires`:
+-- Demand 2, and of demand 1 that every call is defined and ends, are the contracts of the public calls, proved in `calls`
+-- and, for fresh, in `supervisor`. Each is an equality with the definition named here, for every record, every memory of any
+-- length and every argument, and none has a `requires`:
 --     Supervisor::fresh      supervisor/specs/Supervisor, freshOf at moduleBranches, which is four
 --     write_register         calls/specs/Calls, writeRegisterOf
 --     read_register          calls/specs/Calls, readRegisterOf
 --     write_memory           calls/specs/Calls, writeMemoryOf, and memoryAfterOf for the memory after it
 --     read_memory            calls/specs/Calls, readMemoryOf; the memory is lent for reading only
 --     tick                   calls/specs/Calls, tickOf; the memory is lent for reading only
--- The console's one function is proved in the crate `script`, the same way:
---     answers                script/specs/Answers, answersOf; what it prints always fits
+-- The console's contract is proved in `script`, for every script:
+--     answers                script/specs/Answers, answersOf: the bytes printed, which always fit; the rest of the buffer
+--                            is left open
 -- That a function is proved says besides that it does nothing undefined and that it ends.
 -- Assumes nothing.
 use Prim.Native.Nat.{ℕ, _<_}
@@ -22,9 +24,9 @@ use lib.ListN.{length}
 use Rattle.branches.specs.Readout.{moduleBranches}
 use Rattle.supervisor.specs.Supervisor.{isSpoiledOf}
 use Rattle.supervisor.specs.declared.Supervisor.{Supervisor}
-use Rattle.calls.specs.Answers.{declined}
+use Rattle.calls.specs.Answers.{declined, declineOrZero}
 use Rattle.calls.specs.Runs.{Ask, Call, askOf, memoryAfter}
-use Rattle.calls.specs.Refusals.{statusBit, Leaves}
+use Rattle.calls.specs.Refusals.{refusalsOf, firstOf, statusBit, Leaves}
 use Rattle.account.specs.Demand3.{Demand3, wordsOf}
 use Rattle.reach.specs.NeverSpoiled.{OfType, KeepsUnspoiled, NeverSpoiled}
 use Rattle.bench.specs.Bench.{examples, allRight}
@@ -35,6 +37,12 @@ use Rattle.script.specs.AnswerLines.{sessionAt, OneLine, newlines}
 use Rattle.reader.specs.declared.Command.{Command}
 
 -- ---- demand 1, beside the contracts
+
+-- [Declines.1a] A call is refused by the first of its tests that fails, with that test's number; where none fails it is
+-- carried out. calls/specs/Refusals has the tests of every call in document 01's order.
+abbrev pub RefusesInOrder : Type 0
+RefusesInOrder =
+    (a : Ask) (memory : List ℕ) (s : Supervisor) → declineOrZero (askOf a memory s .reply) ≡ firstOf (refusalsOf a memory s)
 
 -- [Declines.1b] A refusal leaves the record as it is; only a refusal with 4 sets a status bit: 19 for a write, 20 for a
 -- read.
@@ -48,7 +56,8 @@ abbrev pub RefusalLeavesMemory : Type 0
 RefusalLeavesMemory =
     (a : Ask) (memory : List ℕ) (s : Supervisor) (n : ℕ) → askOf a memory s .reply ≡ declined n → memoryAfter a memory s ≡ memory
 
--- [Declines.2a] [Declines.3a] [Declines.4a] [Declines.5a] A spoiled record refuses every call with 1, before all else.
+-- [Declines.2a] [Declines.3a] [Declines.4a] [Declines.5a] A spoiled record refuses every call that takes one with 1,
+-- before all else.
 abbrev pub SpoiledRecordRefuses : Type 0
 SpoiledRecordRefuses =
     (a : Ask) (memory : List ℕ) (s : Supervisor) → isSpoiledOf s ≡ true → askOf a memory s .reply ≡ declined 1
@@ -57,7 +66,7 @@ SpoiledRecordRefuses =
 
 -- [Account.1] After every list of calls from a fresh supervisor, refused ones among them, whatever memory is lent,
 -- record and account balance: the words of each branch in order and at most eight held, the masks of each input, the
--- events, n div (F + 1).
+-- events and whether main holds the undecided one, n div (F + 1).
 abbrev pub EveryRunBalances : Type 0
 EveryRunBalances = Demand3 moduleBranches
 
@@ -65,7 +74,7 @@ EveryRunBalances = Demand3 moduleBranches
 abbrev pub EveryRunBalancesAtAnySize : Type 0
 EveryRunBalancesAtAnySize = (branches : ℕ) → Demand3 branches
 
--- [Account.16] Any two branches of the module have finished and hold the same words, in the same order.
+-- [Account.16] What a branch of the module finished, followed by what it holds, is the same list for any two branches.
 abbrev pub AnyTwoBranchesAgree : Type 0
 AnyTwoBranchesAgree =
     (calls : List Call) (j k : ℕ) → j < moduleBranches → k < moduleBranches

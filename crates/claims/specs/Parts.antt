@@ -103,8 +103,11 @@ PulseHasOneFate =
     + oneIfOf (bitAt (prescaler.stepOf runs pulses b .scaled) i)
     + oneIfOf (bitAt (prescaler.stepOf runs pulses b .passed) i)
 
--- [Account.17] With n pulses since the load and p of them passed: n + counter = p × (F + 1) + F and counter ≤ F, so p =
--- n div (F + 1).
+-- [Account.17] `PassCount` says of n pulses since the load, p of them passed: n + counter = p × (F + 1) + F and counter ≤ F.
+-- A counter just loaded has it with n and p 0; every pulse keeps it; and from it p = n div (F + 1).
+abbrev pub LoadStartsPassCount : Type 0
+LoadStartsPassCount = (factor : ℕ) → prescaler.PassCount 0 0 factor factor
+
 abbrev pub PulseKeepsPassCount : Type 0
 PulseKeepsPassCount =
     (counted runs : Bool) (n p counter factor : ℕ) → prescaler.PassCount n p counter factor
@@ -170,7 +173,8 @@ UserSyncEndsExactly =
 
 -- ---- branches
 
--- [Account.15] What finished, followed by what is held, is what was held followed by what was loaded.
+-- [Account.15] In a branch that no rule finds spoiled, with room for a word of six bits: what finished, followed by what is
+-- held, is what was held followed by what was loaded.
 abbrev pub BranchKeepsOrder : Type 0
 BranchKeepsOrder =
     (acks enabled : ℕ) (b : Branch) (load : Slot) → branch.isSixBitLoad load ≡ true → branch.hasRoomFor load b ≡ true
@@ -178,7 +182,7 @@ BranchKeepsOrder =
     → wordsIn (branch.stepOf acks enabled load b .finished) ++ branch.held (branch.stepOf acks enabled load b .next)
     ≡ branch.held b ++ wordsIn load
 
--- [Spoiled.1d] At Strobe there is a word.
+-- [Spoiled.1d] A branch at Strobe that no rule finds spoiled holds a word.
 abbrev pub StrobeHasWord : Type 0
 StrobeHasWord = (b : Branch) → branch.WellFormedBranch b → b .phase ≡ Strobe → 0 < length (branch.held b)
 
