@@ -2,7 +2,7 @@
 """Lists every must-fail edit in docs/IMPOSTORS.md, under "Every edit", from the first line of each edit.
 
     tools/impostors.py           rewrites the list
-    tools/impostors.py --check   exits 1 if the list is not what the edits say, or if the page names an edit that is not there
+    tools/impostors.py --check   exits 1 if the list is not what the edits say, or if a page of docs/ names an edit that is not there
 """
 import pathlib
 import re
@@ -24,7 +24,8 @@ def main():
     table = "".join(f"| `{name}` | {rule} |\n" for name, rule in listed)
     after = before[: before.index(HEAD)] + f"{HEAD}\n{len(listed)} edits.\n\n| Edit | Wrong rule |\n|---|---|\n{table}"
     crates = {path.name for path in TOP.glob("crates/*")}
-    named = {n for n in re.findall(r"`(\w+/\w+)`", after) if n.split("/")[0] in crates}
+    pages = after + "".join(page.read_text() for page in TOP.glob("docs/*.md") if page != PAGE)
+    named = {n for n in re.findall(r"`(\w+/\w+)`", pages) if n.split("/")[0] in crates and "/src" not in n and "/specs" not in n}
     missing = sorted(named - {name for name, _ in listed})
     for name in missing:
         print(f"no such edit: {name}")

@@ -1,14 +1,12 @@
 -- What a register write that is carried out changes, and what a read gives.
 --     document 01     "Registers"
---     writtenOf       the record after the write
+--     writtenOf       the record after the write: csrWrittenOf for the CSR, coreWrittenOf for the core's other registers
 --     storedOf        the stored value
 -- A value is cut to the width of its place; one that does not fit never comes this far ([Declines.2d]).
 -- Own rules of 01 used here: none. Decisions: none. Left out: nothing.
 -- Assumes nothing.
-use Prim.Native.Nat.{ℕ, _-_, _%_, _^_}
-use mathlib.Core.Bool.{Bool}
-use lib.Dec.{eqb}
-use Rattle.bits.specs.Notation.{if_then_else_, _▷_}
+use Prim.Native.Nat.{ℕ, _%_, _^_}
+use Rattle.bits.specs.Notation.{_▷_}
 use Rattle.registers.specs.Csr as csr
 use Rattle.registers.specs.declared.csr.CsrWrite.{CsrWrite}
 use Rattle.registers.specs.declared.csr.Request.{Request}
@@ -17,9 +15,7 @@ use Rattle.registers.specs.declared.register.Register.{Register}
 use Rattle.registers.specs.declared.register.Register.the-variants.{Csr, Control, Factor, RocEnable}
 use Rattle.registers.specs.declared.register.Register.the-variants.{Interval, Timer, Scaler, Assign, Absent}
 use Rattle.prescaler.specs.Prescaler as prescaler
-use Rattle.prescaler.specs.PrescalerFields.{factorAt}
 use Rattle.timers.specs.Timers as timers
-use Rattle.timers.specs.declared.Timers.{Timers}
 use Rattle.sync.specs.SyncCounter as counter
 use Rattle.scalers.specs.Scalers as scalers
 use Rattle.branches.specs.ReadoutFields.{withRoc}

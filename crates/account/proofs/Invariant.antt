@@ -42,7 +42,7 @@ followedOf s =
     }
 
 -- the prescalers of a bank and the account's factor, n and p; a change request that loads a counter in another way
--- weakens this record alone
+-- weakens this record and `prescales` of the statement
 pub record Prescaling (b : Prescalers) (factor n p : ℕ → ℕ) : Type 0 where
   -- a list stands for the array of eight: needed by every pulse and by a factor write
   pub eight : EightPlaces b

@@ -7,7 +7,7 @@
 -- Assumes nothing.
 use Prim.Native.Nat.{ℕ, _<_}
 use mathlib.Core.Path.{_≡_, refl, sym, _∙_}
-use mathlib.Core.List.{List, [], _∷_, _++_}
+use mathlib.Core.List.{List, [], _∷_}
 use Rattle.prescaler.specs.PrescalerFields.{counterAt, factorAt}
 use Rattle.prescaler.proofs.PrescalerLaws.{pass-count-divides}
 use Rattle.supervisor.specs.Supervisor.{freshOf}
@@ -20,7 +20,7 @@ use Rattle.calls.proofs.CallEnds.{End, refused, refusedActive, wrote, gave, sto
 use Rattle.calls.specs.Refusals.{statusBit}
 use Rattle.account.specs.AccountFields.{Account}
 use Rattle.account.specs.Account.{start, afterEntry, accountOf}
-use Rattle.account.specs.Demand3.{heldAt, Balanced, Demand3, wordsOf}
+use Rattle.account.specs.Demand3.{Balanced, Demand3, wordsOf}
 use Rattle.account.proofs.Invariant.{Invariant}
 use Rattle.account.proofs.WriteLaw.{fresh-has-invariant, write-keeps-invariant}
 use Rattle.account.proofs.TickLaw.{ticked-keeps-invariant}

@@ -8,11 +8,11 @@
 -- mask's bit is, which outcome an answer reports and the word in it.
 -- Own rules of 01 used here: none. Decisions: none. Left out: nothing.
 -- Assumes nothing.
-use Prim.Native.Nat.{ℕ, suc, _+_, _-_}
-use mathlib.Core.Bool.{Bool, true, false, not, _&&_, _||_}
+use Prim.Native.Nat.{ℕ, _+_, _-_}
+use mathlib.Core.Bool.{Bool, false, not, _&&_, _||_}
 use mathlib.Core.List.{List, [], _∷_, _++_}
 use lib.ListN.{getD}
-use Rattle.bits.specs.Notation.{if_then_else_, _▷_}
+use Rattle.bits.specs.Notation.{_▷_}
 use Rattle.bits.specs.Bits.{bitAt, oneIfOf}
 use Rattle.registers.specs.Csr.{requestedOf}
 use Rattle.registers.specs.Control.{counts}

@@ -6,17 +6,16 @@
 --     strobe-comes-then, event-is-counted, eight-are-held   the right values beside them
 -- Assumes nothing.
 use mathlib.Core.Path.{_≡_, refl}
-use mathlib.Core.List.{List, [], _∷_, _++_}
+use mathlib.Core.List.{[], _∷_, _++_}
 use lib.ListN.{length}
-use Rattle.calls.specs.Answers.{Reply}
-use Rattle.calls.specs.Runs.{Ask, readRegister}
+use Rattle.calls.specs.Runs.{readRegister}
 use Rattle.sequencer.specs.declared.states.State.the-variants.{Idle, Space}
-use Rattle.bench.specs.Asks.{csr, factor, rocEnable, scaler0, forceSync, enableSync, firstController}
+use Rattle.bench.specs.Asks.{csr, factor, scaler0, forceSync, enableSync, firstController}
 use Rattle.bench.specs.Asks.{write, store, pulse, acknowledge, ticks, event, class1}
 use Rattle.bench.specs.Sessions.{repliesTo, passed, shown1, readOut, mainAfter, held1After}
 use Rattle.bench.specs.Bench.{running, eightHeld, viewed}
 use Rattle.bench.proofs.Opened.{machine}
-use Prim.Native.Nat.{ℕ, _+_}
+use Prim.Native.Nat.{_+_}
 
 -- [Bench.10] factor 1: the misreading would see 1 ∷ 0
 pub first-pulse-is-scaled : viewed passed (repliesTo (write (factor 1) 1 ∷ running ++ pulse 1 ∷ pulse 1 ∷ [])) ≡ 0 ∷ 1 ∷ []

@@ -3,7 +3,7 @@
 -- Assumes nothing.
 use Prim.Native.Nat.{ℕ}
 use mathlib.Core.Path.{_≡_, refl}
-use mathlib.Core.List.{List, [], _∷_, _++_}
+use mathlib.Core.List.{List, [], _∷_}
 use Rattle.branch.specs.declared.Slot.{Slot}
 use Rattle.branch.specs.declared.Slot.the-variants as slot
 use Rattle.branches.specs.declared.Side.{Side}

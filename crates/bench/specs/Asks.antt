@@ -5,6 +5,7 @@
 use Prim.Native.Nat.{ℕ, zero, suc, _+_, _-_, _^_}
 use mathlib.Core.List.{List, [], _∷_, _++_}
 use lib.ListN.{replicate}
+use Rattle.core.specs.Lines.{inputsOf}
 use Rattle.calls.specs.Runs.{Ask, writeRegister, writeMemory, tick}
 
 -- ---- the registers, as [Registers.1] numbers them
@@ -73,7 +74,7 @@ abbrev pub store : (word : ℕ) → Ask
 store word = writeMemory 1 word
 
 abbrev pub bring : (triggers lines acks : ℕ) → Ask
-bring t l a = tick (record { triggers = t; lines = record { word = l }; acks = a })
+bring t l a = tick (inputsOf t l a)
 
 -- a tick with a pulse of one input and nothing else; with lines; with acknowledges
 abbrev pub pulse : (input : ℕ) → Ask

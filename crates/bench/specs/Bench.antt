@@ -7,10 +7,11 @@
 -- Own rules of 01 used here: fail beats pass. Decisions: none. Left out: the misreadings, in proofs/Misreadings.
 -- Assumes nothing.
 use Prim.Native.Nat.{ℕ, _+_}
-use mathlib.Core.Bool.{Bool, true, false, _&&_}
+use mathlib.Core.Bool.{Bool, true, _&&_}
 use mathlib.Core.List.{List, [], _∷_, _++_}
 use lib.Dec.{eqb}
 use lib.ListN.{length, take, drop}
+use Rattle.bits.specs.Bytes.{isSameOf}
 use Rattle.calls.specs.Answers.{Reply, declineOrZero}
 use Rattle.calls.specs.Runs.{Ask}
 use Rattle.bench.specs.Asks.{csr, control, factor, rocEnable, interval, t1, enable, openPrescales}
@@ -145,12 +146,6 @@ examples =
 
 -- ---- a row is right
 
-abbrev sameNumbers : List ℕ → List ℕ → Bool
-sameNumbers [] [] = true
-sameNumbers [] (m ∷ ms) = false
-sameNumbers (n ∷ ns) [] = false
-sameNumbers (n ∷ ns) (m ∷ ms) = eqb n m && sameNumbers ns ms
-
 -- what the view gives of all replies, in order
 abbrev pub viewed : (Reply → List ℕ) → List Reply → List ℕ
 viewed view [] = []
@@ -164,7 +159,7 @@ abbrev pub isRight : Example → Bool
 isRight e =
     let replies = repliesTo (e .first ++ e .later) in
     allCarriedOut (take (length (e .first)) replies)
-    && sameNumbers (viewed (e .view) (drop (length (e .first)) replies)) (e .seen)
+    && isSameOf (viewed (e .view) (drop (length (e .first)) replies)) (e .seen)
 
 abbrev pub allRight : List Example → Bool
 allRight [] = true

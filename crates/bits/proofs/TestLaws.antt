@@ -3,6 +3,7 @@
 --     and-both              the parts make the chain
 --     implied, implies      "not p, or q" is: if p then q
 --     every-at, at-every    a test at each index below n is the tests at all of them
+--     and-fails, every-fails   a chain fails if its second part does; a test at every index if it fails at one
 --     all-true-at           a list of tests that all hold has each of them, by its place
 --     by-cond               what holds of both results of a choice holds of the choice; each side knows its test
 --     or-true, or-rest      a second test that holds makes the choice hold; a first that fails leaves the second
@@ -48,6 +49,16 @@ at-every zero f h = refl
 at-every (suc n) f h =
     and-both (f 0) (every n (λ j. f (suc j))) (h 0 (omega arith))
     (at-every n (λ j. f (suc j)) (λ i k. h (suc i) (omega arith)))
+
+pub and-fails : (p : Bool) {q : Bool} → q ≡ false → (p && q) ≡ false
+and-fails true e = e
+and-fails false e = refl
+
+pub every-fails : (n : ℕ) (f : ℕ → Bool) (i : ℕ) → i < n → f i ≡ false → every n f ≡ false
+unfolding every
+every-fails zero f i k h = absurd (omega arith)
+every-fails (suc n) f zero k h = rw h
+every-fails (suc n) f (suc i) k h = and-fails (f 0) (every-fails n (λ j. f (suc j)) i (omega arith) h)
 
 pub all-true-at : (ts : List Bool) → allTrue ts ≡ true → (i : ℕ) → i < length ts → getD ts i false ≡ true
 all-true-at [] h i k = absurd (omega arith)

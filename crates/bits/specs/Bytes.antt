@@ -4,11 +4,13 @@
 --     bytesOf w      the four bytes of a word: one for each branch
 --     bytes n v      the first n bytes of v, by division: the places of a queue
 --     allOf test l   every number of l passes the test
+--     isSameOf a b   two lists have the same numbers, place by place
 -- Own rules of 01 used here: none. Decisions: none. Left out: nothing.
 -- Assumes nothing.
 use Prim.Native.Nat.{ℕ, zero, suc, _/_, _%_, _^_}
-use mathlib.Core.Bool.{Bool, true, _&&_}
+use mathlib.Core.Bool.{Bool, true, false, _&&_}
 use mathlib.Core.List.{List, [], _∷_}
+use lib.Dec.{eqb}
 use Rattle.bits.specs.Bits.{tabulate}
 
 -- [Registers.1] the byte of branch b + 1
@@ -25,3 +27,9 @@ bytes (suc n) v = v % 256 ∷ bytes n (v / 256)
 abbrev pub allOf : (ℕ → Bool) → List ℕ → Bool
 allOf test [] = true
 allOf test (w ∷ l) = test w && allOf test l
+
+unfoldable pub isSameOf : List ℕ → List ℕ → Bool
+isSameOf [] [] = true
+isSameOf [] (w ∷ b) = false
+isSameOf (v ∷ a) [] = false
+isSameOf (v ∷ a) (w ∷ b) = eqb v w && isSameOf a b

@@ -9,7 +9,7 @@
 -- Assumes nothing.
 use Prim.Native.Nat.{ℕ, zero, suc, _<_}
 use mathlib.Core.Path.{_≡_, refl, sym, ap, _∙_}
-use mathlib.Core.Bool.{Bool, true, false, not, _&&_, _||_, true≢false}
+use mathlib.Core.Bool.{Bool, true, false, not, _&&_, true≢false}
 use mathlib.Core.List.{List, [], _∷_, map}
 use native.Mathlib.Omega.{arith}
 use lib.Dec.{eqb, ltb}
@@ -33,7 +33,6 @@ use Rattle.branches.specs.ReadoutFields.{withBranches, branchAt}
 use Rattle.branches.specs.Readout.{emptiedOf, isQuietOf, stepAt, sideAfterOf, stepOf, gatheredOf, noSide, silentOf}
 use Rattle.branches.specs.Readout.{isSoundBranchOf, isWellFormedOf}
 use Rattle.branches.specs.declared.Readout.{Readout}
-use Rattle.branches.specs.declared.Side.{Side}
 
 -- ---- four in a row
 

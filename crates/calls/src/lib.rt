@@ -2,6 +2,8 @@
 // and hands back the next record with its answer. No call has a `requires`; each contract is an equality with a
 // definition of specs/Calls.antt, for every record and every memory; `write_memory` has one more, for the memory.
 ghost use mathlib.Core.Path.{_≡_};
+ghost use Prim.Native.Nat.{_≤_};
+ghost use Rattle.calls.specs.Answers.{declineNumber};
 ghost use Rattle.calls.specs.Calls.{markedOf, refuse, refuseRead, refuseTick, writeRegisterOf, readRegisterOf};
 ghost use Rattle.calls.specs.Calls.{writeMemoryOf, memoryAfterOf, readMemoryOf, tickOf};
 use access::stored;
@@ -31,6 +33,22 @@ pub enum Decline {
     Place,
     Active,
     Value,
+}
+
+impl Decline {
+    // [Declines.1a] document 01's number; the second clause is that it has one digit
+    pub fn number(self) -> u8
+        ensures { λ r. ⌜ r ≡ declineNumber self ⌝ }
+        ensures { λ r. ⌜ r ≤ 9 ⌝ }
+    {
+        match self {
+            Decline::Spoiled => 1,
+            Decline::Length => 2,
+            Decline::Place => 3,
+            Decline::Active => 4,
+            Decline::Value => 5,
+        }
+    }
 }
 
 // The answer to a write, and whether a tick was carried out.

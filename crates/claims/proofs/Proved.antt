@@ -5,7 +5,8 @@ use Rattle.calls.proofs.CallsLaws.{declines-in-order, refusal-leaves, refusal-l
 use Rattle.account.proofs.Theorem.{every-run-balances, any-two-branches}
 use Rattle.reach.proofs.Never.{call-keeps-unspoiled, never-spoiled}
 use Rattle.bench.proofs.Examples.{bench-examples}
-use Rattle.script.proofs.ScriptLaws.{lines-end, lines-append, answers-so-far, answer-is-line, answers-count}
+use Rattle.reader.proofs.ReaderLaws.{lines-end, lines-append}
+use Rattle.script.proofs.ScriptLaws.{answers-so-far, answer-is-line, answers-count}
 use Rattle.claims.specs.Claims.{RefusesInOrder, RefusalLeavesRecord, RefusalLeavesMemory, SpoiledRecordRefuses}
 use Rattle.claims.specs.Claims.{EveryRunBalances, EveryRunBalancesAtAnySize, AnyTwoBranchesAgree, NoRunIsSpoiled}
 use Rattle.claims.specs.Claims.{EveryCallKeepsUnspoiled, BenchExamples, LastNewlineMayLack}

@@ -5,7 +5,7 @@
 --     undecided-follows      the account's rule of the undecided event follows main's state
 -- Assumes nothing.
 use Prim.Native.Nat.{ℕ, _+_}
-use mathlib.Core.Path.{_≡_, refl, sym, _∙_}
+use mathlib.Core.Path.{_≡_, refl, sym}
 use mathlib.Core.Bool.{Bool, true, false, not, _&&_, _||_, true≢false}
 use native.Mathlib.Omega.{arith}
 use Rattle.bits.specs.Bits.{oneIfOf}

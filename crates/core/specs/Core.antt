@@ -5,16 +5,16 @@
 --     mainStepOf, userStepOf   what main and the user sync do
 --     settledOf      the core after all of them, with what the tick reports
 --     stepOf         a tick of the core
---     resetOf        the core after RESET
---     soundnessOf    the clauses of the spoiled rule on the core
+--     freshOf, resetOf   the core at power-up, and after RESET
+--     linesOutOf     the lines out
+--     isActiveOf, allowsEightOf, isSoundOf   its part of the active rule and of the spoiled rule, clause by clause in soundnessOf
 -- All tests read the record at the tick's start ([Tick.2]): each part below is a function of that record alone.
 -- Own rules of 01 used here: none. Decisions: T1, T2, T4, A2, A4. Left out: nothing.
 -- Assumes nothing.
 use Prim.Native.Nat.{ℕ, _+_, _*_, _%_}
 use mathlib.Core.Bool.{Bool, not, _&&_, _||_}
 use mathlib.Core.List.{List, [], _∷_}
-use lib.Dec.{eqb}
-use Rattle.bits.specs.Notation.{if_then_else_, _▷_}
+use Rattle.bits.specs.Notation.{if_then_else_}
 use Rattle.bits.specs.Bits.{oneIfOf, allTrue}
 use Rattle.registers.specs.Csr as csr
 use Rattle.registers.specs.Control as control

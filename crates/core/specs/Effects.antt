@@ -1,12 +1,12 @@
 -- What the moves of a tick change besides themselves: the latch of the passed pulses, the CSR's bits, the sync count, and
 -- what the tick reports and the scalers count.
 --     document 01    "The tick": Ready, Main and User sync; "The answer"
---     latchOf        what becomes of the passed pulses
---     csrAfterOf, syncAfterOf   the CSR and the sync count after the tick
+--     wordAtOf, latchOf   the memory's word for a pattern, and what becomes of the passed pulses
+--     csrAfterOf, syncAfterOf   the CSR, with the status bits of statusOf, and the sync count after the tick
 --     outcomeOf, masksOf, signalsOf   what is reported, and what the scalers count
 -- Own rules of 01 used here: none. Decisions: T2, T3, T6. Left out: nothing.
 -- Assumes nothing.
-use Prim.Native.Nat.{ℕ, _+_, _*_, _^_}
+use Prim.Native.Nat.{ℕ, _+_, _*_}
 use mathlib.Core.Bool.{Bool, not, _&&_, _||_}
 use mathlib.Core.List.{List}
 use lib.ListN.{getD}
@@ -53,7 +53,8 @@ loadsSync m u = m .sync || u .tag
 
 -- [Ready.6] [Main.6] [Main.11] status bits 16, 17 and 18
 abbrev pub statusOf : (inhibit late sync : Bool) → ℕ
-statusOf inhibit late sync = oneIfOf inhibit * 2 ^ 16 + oneIfOf late * 2 ^ 17 + oneIfOf sync * 2 ^ 18
+statusOf inhibit late sync =
+    oneIfOf inhibit * csr.inhibitStatus + oneIfOf late * csr.lateFailStatus + oneIfOf sync * csr.syncStatus
 
 -- [Main.14] [Usersync.2] what the end of Sync hold and of a user sync clear; then the status bits
 unfoldable pub csrAfterOf : Lines → MainStep → UserStep → Csr → Csr

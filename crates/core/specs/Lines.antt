@@ -1,11 +1,18 @@
 -- What a tick brings: the trigger bits, the seven lines by name, the acknowledges.
 --     document 01    "The tick", Input
+--     inputsOf                  what a tick brings, from its three numbers
 --     hasStrobe .. hasInhibit   the lines by name
 -- Own rules of 01 used here: none. Decisions: none. Left out: the acknowledges' layout, in branches.
 -- Assumes nothing.
+use Prim.Native.Nat.{ℕ}
 use mathlib.Core.Bool.{Bool}
 use Rattle.bits.specs.Bits.{bitAt}
 use Rattle.core.specs.declared.lines.Lines.{Lines}
+use Rattle.core.specs.declared.lines.Inputs.{Inputs}
+
+-- [Tick.1]
+abbrev pub inputsOf : (triggers lines acks : ℕ) → Inputs
+inputsOf triggers lines acks = record { triggers = triggers; lines = record { word = lines }; acks = acks }
 
 -- ---- the lines, by their names in [Tick.1]
 

@@ -1,5 +1,6 @@
 // What a tick brings (document 01, "The tick", Input). The definitions are in specs/Lines.antt.
 ghost use mathlib.Core.Path.{_≡_};
+ghost use Rattle.core.specs.Lines.{inputsOf};
 ghost use Rattle.core.specs.Lines.{hasStrobe, hasPass2, hasFail2, hasPass3, hasFail3, hasFrontBusy, hasInhibit};
 
 // The seven lines, a bit each.
@@ -13,6 +14,19 @@ pub struct Inputs {
     pub lines: Lines,
     // laid out as register 10
     pub acks: u32,
+}
+
+impl Inputs {
+    // [Tick.1] from its three numbers
+    pub fn brought(triggers: u32, lines: u32, acks: u32) -> Inputs
+        ensures { λ r. ⌜ r ≡ inputsOf triggers lines acks ⌝ }
+    {
+        Inputs {
+            triggers,
+            lines: Lines { word: lines },
+            acks,
+        }
+    }
 }
 
 impl Lines {

@@ -2,7 +2,6 @@
 // with the lines out; outcome; finished words; shown words.
 use branch::Slot;
 use branches::Side;
-use calls::Decline;
 use calls::ReadDone;
 use calls::Reading;
 use calls::TickDone;
@@ -18,21 +17,10 @@ pub struct Reply {
     pub numbers: [u64; 8],
 }
 
-// document 01's number for each decline
-fn decline_number(why: Decline) -> u64 {
-    match why {
-        Decline::Spoiled => 1,
-        Decline::Length => 2,
-        Decline::Place => 3,
-        Decline::Active => 4,
-        Decline::Value => 5
-    }
-}
-
 fn verdict_number(verdict: Verdict) -> u64 {
     match verdict {
         Verdict::Done => 0,
-        Verdict::Declined(why) => decline_number(why)
+        Verdict::Declined(why) => why.number() as u64
     }
 }
 
@@ -89,7 +77,7 @@ pub fn read_reply(r: ReadDone) -> Reply {
         },
         Reading::Declined(why) => Reply {
             next,
-            numbers: [decline_number(why), 0, 0, 0, 0, 0, 0, 0],
+            numbers: [why.number() as u64, 0, 0, 0, 0, 0, 0, 0],
         }
     }
 }

@@ -1,7 +1,6 @@
 // The calls on plain numbers, for reference/compare to link: a record and a list of calls go in as numbers, and the
 // answers and the next record come out. No contract is made here; the functions are proved safe and ending.
 use core::lines::Inputs;
-use core::lines::Lines;
 use numbers::record_in::number_at;
 use numbers::record_in::record_in;
 use numbers::record_out::put_eight;
@@ -25,17 +24,6 @@ fn word_of(n: u64) -> u32 {
     (n % 4294967296) as u32
 }
 
-fn inputs_of(triggers: u64, lines: u64, acks: u64) -> Inputs {
-    let word = Lines {
-        word: word_of(lines),
-    };
-    Inputs {
-        triggers: word_of(triggers),
-        lines: word,
-        acks: word_of(acks),
-    }
-}
-
 // One call: 0 register write, 1 register read, 2 memory write, 3 memory read, 4 tick, above that fresh.
 fn reply_to(s: Supervisor, memory: &mut [u16], kind: u64, a: u64, b: u64, c: u64) -> Reply {
     if kind == 0 {
@@ -51,7 +39,11 @@ fn reply_to(s: Supervisor, memory: &mut [u16], kind: u64, a: u64, b: u64, c: u64
         return read_reply(calls::read_memory(s, memory, word_of(a)));
     }
     if kind == 4 {
-        return tick_reply(calls::tick(s, memory, inputs_of(a, b, c)));
+        return tick_reply(calls::tick(
+            s,
+            memory,
+            Inputs::brought(word_of(a), word_of(b), word_of(c)),
+        ));
     }
     fresh_reply()
 }

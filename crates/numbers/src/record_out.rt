@@ -22,10 +22,6 @@ fn wide8(n: u8) -> u64 {
     n as u64
 }
 
-fn one_if(t: bool) -> u64 {
-    if t { 1 } else { 0 }
-}
-
 fn state_number(state: State) -> u64 {
     match state {
         State::Idle => 0,
@@ -106,7 +102,7 @@ fn main_numbers(main: MainSequencer) -> [u64; 8] {
         wide8(main.code),
         wide8(main.accept),
         wide8(main.raised),
-        one_if(main.late),
+        wide(bits::one_if(main.late)),
     ]
 }
 
@@ -123,7 +119,7 @@ fn put_controls(numbers: &mut [u64], core: Core) {
     put(numbers, 1, wide(core.control.word));
     put(numbers, 11, wide16(core.sync.interval));
     put(numbers, 36, wide16(core.sync.count));
-    put(numbers, 37, one_if(core.user.waiting));
+    put(numbers, 37, wide(bits::one_if(core.user.waiting)));
 }
 
 fn put_scalers(numbers: &mut [u64], scalers: Scalers) {

@@ -6,7 +6,6 @@ use branches::Side;
 use calls::Verdict;
 use core::Masks;
 use core::lines::Inputs;
-use core::lines::Lines;
 use numbers::record_in::number_at;
 use numbers::record_in::record_in;
 use numbers::record_out::wide;
@@ -88,14 +87,9 @@ fn closed(sum: u64, s: Supervisor) -> u64 {
 
 // An input of the table: triggers from bit 0, lines from bit 12, acknowledges from bit 32.
 fn inputs_in(packed: u64) -> Inputs {
-    let lines = Lines {
-        word: (packed / 4096 % 128) as u32,
-    };
-    Inputs {
-        triggers: (packed % 4096) as u32,
-        lines,
-        acks: (packed / 4294967296 % 4294967296) as u32,
-    }
+    let triggers = (packed % 4096) as u32;
+    let lines = (packed / 4096 % 128) as u32;
+    Inputs::brought(triggers, lines, (packed / 4294967296 % 4294967296) as u32)
 }
 
 // How many inputs the table has.

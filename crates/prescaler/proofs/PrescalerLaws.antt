@@ -12,31 +12,28 @@
 --     step-keeps-factors, step-keeps-lengths, step-keeps-within
 --     within-at, at-within               the test of the code, as facts of each input
 -- Assumes nothing.
-use Prim.Native.Nat.{ℕ, _+_, _-_, _*_, _/_, _^_, _<_, _≤_}
+use Prim.Native.Nat.{ℕ, _+_, _-_, _*_, _/_, _<_, _≤_}
 use mathlib.Core.Path.{_≡_, refl, sym, ap, ap₂, _∙_}
-use mathlib.Core.Bool.{Bool, true, false, not, _&&_, _||_, cond}
+use mathlib.Core.Bool.{Bool, true, false, not, _&&_, _||_}
 use mathlib.Core.List.{List}
-use mathlib.Core.Logic.{_≢_}
 use native.Mathlib.Omega.{arith}
 use native.Mathlib.Nat.{le-refl}
 use lib.Arith.{digits-div}
 use lib.Dec.{eqb, ltb, leb}
-use lib.ListN.{length, getD, set, length-set, List·getD-eq-default}
-use lib.Seq.{getD-set-same, getD-set-other}
+use lib.ListN.{length, getD, List·getD-eq-default}
 use borrow.Author.Tests.{eqb-true, eqb-false, ltb-true, ltb-false, leb-true, eq-eqb, ne-eqb, le-leb, lt-leb}
 use Rattle.bits.specs.Notation.{_▷_}
 use Rattle.bits.specs.Bits.{bitAt, oneIfOf, maskOf, tabulate}
-use Rattle.bits.proofs.TestLaws.{and-left, every-at, at-every}
-use Rattle.bits.proofs.BitsLaws.{mask-at-below, mask-lt}
+use Rattle.bits.proofs.TestLaws.{every-at, at-every}
+use Rattle.bits.proofs.BitsLaws.{mask-at-below}
 use Rattle.bits.proofs.BitsLaws.{tabulate-at, tabulate-past, tabulate-length, tabulate-same, tabulate-getD}
-use Rattle.prescaler.specs.PrescalerFields.{withCounters, withFactors, counterAt, factorAt}
+use Rattle.prescaler.specs.PrescalerFields.{withCounters, counterAt, factorAt}
 use Rattle.registers.specs.Control.{inputs}
-use Rattle.prescaler.specs.Prescaler.{prescaledInputs, freshOf, isPrescaledOf, withFactorOf, reloadedOf}
+use Rattle.prescaler.specs.Prescaler.{prescaledInputs}
 use Rattle.prescaler.specs.Prescaler.{Fate, absent, stopped, scaled, passed, fateOf, counterAfter}
 use Rattle.prescaler.specs.Prescaler.{FateFacts, factsOf, isAtZero, fateAt, counterAfterAt, stepOf}
 use Rattle.prescaler.specs.Prescaler.{hasCountersWithinOf, EightPlaces, PassCount}
 use Rattle.prescaler.specs.declared.Prescalers.{Prescalers}
-use Rattle.prescaler.specs.declared.Prescaled.{Prescaled}
 
 -- ---- what the laws say of a bank and of a step
 

@@ -23,7 +23,6 @@ use Rattle.prescaler.specs.Prescaler.{prescaledInputs, freshOf, isPresca
 use Rattle.prescaler.specs.Prescaler.{Fate, factsOf, stepOf, hasCountersWithinOf, EightPlaces, ScaledAt}
 use Rattle.prescaler.specs.Prescaler.{PassCount}
 use Rattle.prescaler.specs.declared.Prescalers.{Prescalers}
-use Rattle.prescaler.specs.declared.Prescaled.{Prescaled}
 use Rattle.prescaler.proofs.PrescalerLaws.{StandsAt, scaled-at, passed-at, above-zero-is-scaled}
 use Rattle.prescaler.proofs.PrescalerLaws.{loaded-has-pass-count, within-at, at-within}
 

@@ -1,16 +1,15 @@
-// How an answer is printed (document 01, "Console program"). The definitions are in specs/Printer.antt. Each function
-// writes its text on the page from `at` on and answers the place after it.
+// How an answer is printed (document 01, "Console program"). The definitions are in specs/Printer.antt, and in specs/Parts.antt
+// for the parts of a tick's answer. Each function writes its text on the page from `at` on and answers the place after it.
 ghost use mathlib.Core.Path.{_≡_};
 ghost use Prim.Native.Nat.{_≤_};
 ghost use mathlib.Core.List.{[], _∷_, _++_};
-ghost use Rattle.calls.specs.Answers.{declineNumber, verdictReply, readingReply, tickReply, ticked};
+ghost use Rattle.calls.specs.Answers.{verdictReply, readingReply, tickReply, ticked};
 ghost use Rattle.text.specs.Text.{newline, hex};
 ghost use Rattle.printer.specs.Printer.{outcomeText, slotText, noText, okText, replyText};
 ghost use Rattle.printer.specs.Parts.{maskPart, masksPart, slotPart, slotOf, sidesPart};
 ghost use Rattle.text.specs.Page.{page, write};
 use branch::Slot;
 use branches::Side;
-use calls::Decline;
 use calls::Reading;
 use calls::Verdict;
 use core::Masks;
@@ -41,27 +40,13 @@ fn put_ok(out: &mut [u8], at: usize) -> usize
     put(out, k, b'\n')
 }
 
-// [Declines.1a] document 01's number
-fn number_of(why: Decline) -> u8
-    ensures { λ r. ⌜ r ≡ declineNumber why ⌝ }
-    ensures { λ r. ⌜ r ≤ 9 ⌝ }
-{
-    match why {
-        Decline::Spoiled => 1,
-        Decline::Length => 2,
-        Decline::Place => 3,
-        Decline::Active => 4,
-        Decline::Value => 5,
-    }
-}
-
 // [Console.5] the answer to a write
 pub fn put_verdict(out: &mut [u8], at: usize, answer: Verdict) -> usize
     ensures { λ r. ⌜ page (now (out .exit)) r ≡ write (replyText 0 (verdictReply answer)) (page (now (out .entry)) at) ⌝ }
 {
     match answer {
         Verdict::Done => put_ok(out, at),
-        Verdict::Declined(why) => put_no(out, at, number_of(why)),
+        Verdict::Declined(why) => put_no(out, at, why.number()),
     }
 }
 
@@ -80,7 +65,7 @@ pub fn put_reading(out: &mut [u8], at: usize, digits: u32, answer: Reading) -> u
 {
     match answer {
         Reading::Value(v) => put_value(out, at, digits, v),
-        Reading::Declined(why) => put_no(out, at, number_of(why)),
+        Reading::Declined(why) => put_no(out, at, why.number()),
     }
 }
 
@@ -185,6 +170,6 @@ pub fn put_tick(out: &mut [u8], at: usize, verdict: Verdict, a: Answer) -> usize
 {
     match verdict {
         Verdict::Done => put_answer(out, at, a),
-        Verdict::Declined(why) => put_no(out, at, number_of(why)),
+        Verdict::Declined(why) => put_no(out, at, why.number()),
     }
 }

@@ -2,11 +2,10 @@
 --     tick-keeps-sound       a tick of the core
 --     reset-keeps-sound, fresh-is-sound
 -- Assumes nothing.
-use Prim.Native.Nat.{ℕ, _^_, _<_, _≤_}
+use Prim.Native.Nat.{ℕ, _^_, _<_}
 use mathlib.Core.Path.{_≡_, refl, sym, ap, _∙_}
-use mathlib.Core.Bool.{Bool, true, false, not, _&&_, _||_, true≢false, false≢true}
+use mathlib.Core.Bool.{Bool, true, false, not, _&&_, _||_, false≢true}
 use mathlib.Core.List.{List}
-use lib.Dec.{leb, lit≤}
 use borrow.Author.Tests.{leb-true, le-leb}
 use Rattle.bits.specs.Notation.{if_then_else_}
 use Rattle.bits.specs.Bits.{every}
@@ -30,9 +29,9 @@ use Rattle.sequencer.proofs.MainWellFormed as sequencer
 use Rattle.sequencer.specs.declared.main_sequencer.MainStep.{MainStep}
 use Rattle.scalers.specs.Scalers as scalers
 use Rattle.core.specs.Lines.{hasStrobe}
-use Rattle.core.specs.Effects.{wordAtOf, latchOf, csrAfterOf, syncAfterOf}
-use Rattle.core.specs.Core.{freshOf, resetOf, isRunning, pulsedOf, isReadyOf, isOpenOf, latchedOf}
-use Rattle.core.specs.Core.{testsOf, cycleStepOf, mainStepOf, userStepOf, settledOf, stepOf}
+use Rattle.core.specs.Effects.{wordAtOf, csrAfterOf, syncAfterOf}
+use Rattle.core.specs.Core.{freshOf, resetOf, isRunning, pulsedOf, isReadyOf, latchedOf}
+use Rattle.core.specs.Core.{cycleStepOf, mainStepOf, userStepOf, settledOf, stepOf}
 use Rattle.core.proofs.CoreParts.{accepted-is-ready, idle-cycle-is-quiet}
 use Rattle.core.specs.declared.lines.Inputs.{Inputs}
 use Rattle.core.specs.declared.lines.Lines.{Lines}

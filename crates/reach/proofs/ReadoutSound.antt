@@ -2,22 +2,18 @@
 --     adds-none            without a load a branch holds no more words than before
 --     branch-stays-sound   its clauses after a tick, by the outcome
 -- Assumes nothing.
-use Prim.Native.Nat.{ℕ, _+_, _<_, _≤_}
+use Prim.Native.Nat.{ℕ, _<_, _≤_}
 use mathlib.Core.Path.{_≡_, refl, sym, ap, _∙_}
-use mathlib.Core.Bool.{Bool, true, false, not, _&&_, _||_, true≢false, false≢true}
-use mathlib.Core.List.{List, _++_, append-nil}
+use mathlib.Core.Bool.{Bool, true, false, true≢false, false≢true}
+use mathlib.Core.List.{append-nil}
 use native.Mathlib.Omega.{arith}
-use lib.Dec.{leb, lit<}
-use lib.ListN.{length, getD, length-append, getD-replicate, length-replicate}
+use lib.ListN.{length, getD, length-append}
 use borrow.Author.Tests.{ltb-true, lt-ltb}
 use Rattle.bits.specs.Bytes.{allOf}
-use Rattle.bits.proofs.TestLaws.{or-rest}
-use Rattle.registers.specs.Csr as csr
-use Rattle.sync.proofs.SyncLaws.{user-waits-exactly}
-use Rattle.branch.specs.Branch.{queueDepth, held, hasRoomOf, isSixBitLoad}
+use Rattle.branch.specs.Branch.{queueDepth, held, hasRoomOf}
 use Rattle.branch.specs.Branch as branch
-use Rattle.branch.specs.Slots.{wordsIn, isWordOf}
-use Rattle.branch.proofs.BranchLaws.{held-length, fresh-well-formed}
+use Rattle.branch.specs.Slots.{wordsIn}
+use Rattle.branch.proofs.BranchLaws.{held-length}
 use Rattle.branch.specs.declared.Slot.{Slot}
 use Rattle.branch.specs.declared.Slot.the-variants as slot
 use Rattle.branch.specs.declared.Branch.{Branch}
@@ -25,16 +21,9 @@ use Rattle.branches.specs.ReadoutFields.{branchAt}
 use Rattle.branches.specs.Readout as readout
 use Rattle.branches.proofs.ReadoutLaws as laws
 use Rattle.branches.specs.declared.Readout.{Readout}
-use Rattle.sequencer.specs.MainFields.{quiet}
-use Rattle.sequencer.specs.States.{isIdle, isLoaded, isEvent, isTag, outcomeWords}
-use Rattle.sequencer.specs.MainSequencer as main
-use Rattle.sequencer.proofs.MainLaws.{step-loads-in-order, aged-keeps-state}
-use Rattle.sequencer.specs.declared.states.State.{State}
-use Rattle.sequencer.specs.declared.states.State.the-variants.{Idle, Delay, Wait2, Wait3}
-use Rattle.sequencer.specs.declared.states.State.the-variants.{Front, Space, SyncHold, Clear}
+use Rattle.sequencer.specs.States.{outcomeWords}
 use Rattle.sequencer.specs.declared.states.Outcome.{Outcome}
-use Rattle.sequencer.specs.declared.states.Outcome.the-variants.{Nothing, Cleared, Event, Tag}
-use Rattle.sequencer.specs.declared.main_sequencer.MainStep.{MainStep}
+use Rattle.sequencer.specs.declared.states.Outcome.the-variants.{Nothing}
 use Rattle.supervisor.specs.Supervisor.{loadOf}
 use Rattle.supervisor.proofs.SupervisorLaws.{load-words, no-load}
 use Rattle.core.proofs.CoreParts.{isLoad}

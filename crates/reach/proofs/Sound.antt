@@ -8,11 +8,10 @@
 -- Assumes nothing.
 use Prim.Native.Nat.{ℕ, _<_}
 use mathlib.Core.Path.{_≡_, refl}
-use mathlib.Core.Bool.{Bool, true, false, not, _&&_, _||_}
-use lib.Dec.{ltb, lit<}
+use mathlib.Core.Bool.{Bool, true, false, _&&_, _||_}
+use lib.Dec.{lit<}
 use lib.ListN.{length}
 use borrow.Author.Tests.{not-false}
-use Rattle.bits.specs.Bits.{allTrue}
 use Rattle.bits.proofs.TestLaws.{and-left, and-right, and-both, every-at, at-every, all-true-at, implied, implies}
 use Rattle.bits.proofs.TestLaws.{or-rest}
 use Rattle.registers.specs.Csr as csr

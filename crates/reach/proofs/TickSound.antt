@@ -4,7 +4,7 @@
 --     tick-keeps-type        arrays of eight, an interval of 16 bits
 --     tick-keeps-unspoiled   a tick that is carried out
 -- Assumes nothing.
-use Prim.Native.Nat.{ℕ, _^_, _<_}
+use Prim.Native.Nat.{ℕ, _<_}
 use mathlib.Core.Path.{_≡_, refl, sym, ap, ap₂, _∙_}
 use mathlib.Core.Bool.{Bool, true, false, not, _&&_, _||_, true≢false, false≢true}
 use mathlib.Core.List.{List}
@@ -22,7 +22,7 @@ use Rattle.branches.proofs.ReadoutLaws as laws
 use Rattle.branches.specs.declared.Readout.{Readout}
 use Rattle.sequencer.specs.MemoryWord.{isOkWord}
 use Rattle.sequencer.specs.MainFields.{quiet}
-use Rattle.sequencer.specs.States.{isIdle, isLoaded, isEvent, isTag}
+use Rattle.sequencer.specs.States.{isIdle, isLoaded, isEvent}
 use Rattle.sequencer.specs.MainSequencer as main
 use Rattle.sequencer.proofs.MainLaws.{step-loads-in-order, aged-keeps-state}
 use Rattle.sequencer.specs.declared.states.State.{State}

@@ -4,8 +4,8 @@
 --     write-keeps-unspoiled  a write of a value that its register takes
 --     fresh-is-of-type, write-keeps-type   what the code's types say
 -- Assumes nothing.
-use Prim.Native.Nat.{ℕ, suc, _+_, _-_, _%_, _^_, _<_}
-use mathlib.Core.Path.{_≡_, refl, sym, ap, _∙_}
+use Prim.Native.Nat.{ℕ, suc, _+_, _<_}
+use mathlib.Core.Path.{_≡_, refl}
 use mathlib.Core.Bool.{Bool, true, false}
 use native.Mathlib.Omega.{arith}
 use native.Mathlib.Nat.{mod-lt}
@@ -29,25 +29,21 @@ use Rattle.prescaler.specs.Prescaler as prescaler
 use Rattle.prescaler.specs.Prescaler.{EightPlaces}
 use Rattle.prescaler.proofs.PrescalerLoadLaws as loadLaws
 use Rattle.prescaler.specs.declared.Prescalers.{Prescalers}
-use Rattle.branch.specs.Branch.{hasRoomOf}
 use Rattle.branch.specs.Branch as branch
 use Rattle.branch.proofs.BranchLaws.{fresh-well-formed}
 use Rattle.branch.specs.declared.Branch.{Branch}
-use Rattle.branches.specs.ReadoutFields.{branchAt}
 use Rattle.branches.specs.Readout as readout
 use Rattle.branches.proofs.ReadoutLaws as laws
-use Rattle.branches.specs.declared.Readout.{Readout}
 use Rattle.scalers.specs.Scalers as scalers
 use Rattle.scalers.specs.declared.Scalers.{Scalers}
 use Rattle.core.specs.CoreFields.{withCsr}
 use Rattle.core.specs.Core as core
-use Rattle.core.specs.declared.Core.{Core}
 use Rattle.supervisor.specs.Supervisor.{withCore, freshOf, initializedOf, resetOf}
 use Rattle.supervisor.specs.declared.Supervisor.{Supervisor}
 use Rattle.access.specs.Access.{afterCsrOf, csrWrittenOf, coreWrittenOf, writtenOf}
 use Rattle.calls.specs.Calls.{markedOf}
 use Rattle.reach.specs.NeverSpoiled.{OfType}
-use Rattle.reach.proofs.Sound.{SoundCore, SoundBranch, SoundReadout, Unspoiled}
+use Rattle.reach.proofs.Sound.{SoundCore, SoundBranch, Unspoiled}
 use Rattle.reach.proofs.CoreSound.{reset-keeps-sound, fresh-is-sound}
 
 -- ---- fresh branches

@@ -1,33 +1,21 @@
 -- Laws of the reader: what its loops go by.
---     and-fails, every-fails   a test fails if its second part does; at every index if at one
 --     length-after, length-at, length-none, length-at-most   the length of a line, byte by byte; within the script
+--     lines-end          a last line without its newline reads as with it
+--     lines-append       the lines up to a newline do not depend on the bytes after it
 --     lines-first        the lines of a script that is not empty: its first line, and those after its newline
 -- Assumes nothing.
-use Prim.Native.Nat.{ℕ, zero, suc, _+_, _-_, _*_, _<_, _≤_, _^_}
-use mathlib.Core.Path.{_≡_, refl, sym, ap, _∙_}
-use mathlib.Core.Bool.{Bool, true, false, cond, _&&_}
-use mathlib.Core.List.{List, [], _∷_}
+use Prim.Native.Nat.{ℕ, zero, suc, _+_, _<_, _≤_}
+use mathlib.Core.Path.{_≡_, refl, ap, _∙_}
+use mathlib.Core.Bool.{Bool, true, false, cond}
+use mathlib.Core.List.{List, [], _∷_, _++_}
 use native.Mathlib.Omega.{arith}
 use native.Mathlib.Numerals.{add-one}
 use lib.Dec.{eqb}
-use lib.ListN.{length, take, drop, getD, drop-of-length-le}
+use lib.ListN.{length, take, drop, getD}
 use lib.Seq.{drop-cons}
-use Rattle.bits.specs.Bits.{every}
 use Rattle.bits.proofs.TestLaws.{by-cond}
 use Rattle.text.specs.Text.{newline}
 use Rattle.reader.specs.Reader.{beforeFirst, linesOf, lineLengthOf}
-
--- ---- tests at every index
-
-pub and-fails : (p : Bool) {q : Bool} → q ≡ false → (p && q) ≡ false
-and-fails true e = e
-and-fails false e = refl
-
-pub every-fails : (n : ℕ) (f : ℕ → Bool) (i : ℕ) → i < n → f i ≡ false → every n f ≡ false
-unfolding every
-every-fails zero f i k h = absurd (omega arith)
-every-fails (suc n) f zero k h = rw h
-every-fails (suc n) f (suc i) k h = and-fails (f 0) (every-fails n (λ j. f (suc j)) i (omega arith) h)
 
 -- ---- the first line
 
@@ -76,3 +64,32 @@ pub lines-first : (l : List ℕ) → 0 < length l →
     linesOf l ≡ take (lineLengthOf l) l ∷ linesOf (drop (suc (lineLengthOf l)) l)
 lines-first [] h = absurd (omega arith)
 lines-first (b ∷ bs) h = split-by b bs (eqb b newline) refl (lines-first bs)
+
+-- [Console.3] a script that ends in the middle of a line, and the same script with that line ended
+pub lines-end : (b : ℕ) (bs : List ℕ) → eqb b newline ≡ false → linesOf (bs ++ (b ∷ [])) ≡ linesOf (bs ++ (b ∷ newline ∷ []))
+unfolding linesOf
+lines-end b [] h = rw h
+lines-end b (c ∷ bs) h = ap (λ (ls : List (List ℕ)). cond (eqb c newline) ([] ∷ ls) (beforeFirst c ls)) (lines-end b bs h)
+
+-- [Console.4] lines that are ended are not changed by what follows
+pub lines-append : (a b : List ℕ) → linesOf (a ++ (newline ∷ b)) ≡ linesOf (a ++ (newline ∷ [])) ++ linesOf b
+unfolding linesOf
+lines-append [] b = refl
+lines-append (c ∷ a) b =
+    ap (λ (ls : List (List ℕ)). cond (eqb c newline) ([] ∷ ls) (beforeFirst c ls)) (lines-append a b)
+    ∙ pushed c (eqb c newline) (linesOf (a ++ (newline ∷ []))) (linesOf b) (some a)
+  where
+    some : (a : List ℕ) → 0 < length (linesOf (a ++ (newline ∷ [])))
+    some [] = omega arith
+    some (c ∷ a) = more c (eqb c newline) (linesOf (a ++ (newline ∷ []))) (some a)
+      where
+        more : (c : ℕ) (t : Bool) (ls : List (List ℕ)) → 0 < length ls → 0 < length (cond t ([] ∷ ls) (beforeFirst c ls))
+        more c true ls h = omega arith
+        more c false [] h = absurd (omega arith)
+        more c false (l ∷ ls) h = omega arith
+
+    pushed : (c : ℕ) (t : Bool) (ls ms : List (List ℕ)) → 0 < length ls →
+        cond t ([] ∷ (ls ++ ms)) (beforeFirst c (ls ++ ms)) ≡ cond t ([] ∷ ls) (beforeFirst c ls) ++ ms
+    pushed c true ls ms h = refl
+    pushed c false [] ms h = absurd (omega arith)
+    pushed c false (l ∷ ls) ms h = refl

@@ -1,6 +1,7 @@
 -- How a script is read: its lines, and what each line asks.
 --     document 01     "Console program"
 --     linesOf         the lines of a script
+--     lineLengthOf, firstLineOf   the first line of what is left of it, as the code reads it
 --     hasForm         a line of a letter and fields of so many digits
 --     numberAt        the number that digits of a line write
 --     commandOf       what a line asks; Other for a line of other form

@@ -3,14 +3,14 @@
 --     counted-when-open   with no strobe asked for, or with it high, the enabled pulses count
 --     counted-when-shut   in strobe mode with the strobe low none counts
 -- Assumes nothing.
-use Prim.Native.Nat.{ℕ, suc, _/_, _%_, _^_, _<_}
+use Prim.Native.Nat.{ℕ, _/_, _%_, _^_, _<_}
 use mathlib.Core.Path.{_≡_, refl, sym, ap, _∙_}
 use mathlib.Core.Bool.{Bool, true, false, not, _&&_, _||_}
 use lib.Dec.{ltb}
 use lib.Bits.{bitAnd}
 use Rattle.bits.specs.Bits.{bitAt, maskOf}
 use Rattle.bits.proofs.BitsLaws.{and-at, low-at, half-at, mask-at, mask-at-below, mask-same, mask-none, words-equal-by-bits}
-use Rattle.registers.specs.Control.{inputs, isStrobeMode, isEnabled, counts, countedOf}
+use Rattle.registers.specs.Control.{isStrobeMode, isEnabled, counts, countedOf}
 use Rattle.registers.specs.declared.control.Control.{Control}
 
 pub counted-at : (strobe : Bool) (triggers : ℕ) (c : Control) (i : ℕ) → i < 12

@@ -7,12 +7,12 @@
 --     ..-keeps-valid          a CSR with no bit other than 0–11 and 16–20 has none after the operation either
 -- Assumes nothing.
 use Prim.Native.Nat.{ℕ, _+_, _/_, _^_, _<_}
-use mathlib.Core.Path.{_≡_, refl, sym, ap, ap₂, _∙_}
+use mathlib.Core.Path.{_≡_, refl, ap, ap₂, _∙_}
 use mathlib.Core.Bool.{Bool, true, false, not, _&&_, _||_}
 use lib.Bits.{bitAnd}
 use lib.Dec.{ltb, leb, leb·zero}
 use borrow.Author.Tests.{lt-ltb}
-use Rattle.bits.specs.Bits.{bitAt, bitsFrom, setOf, clearOf}
+use Rattle.bits.specs.Bits.{bitAt, bitsFrom, setOf}
 use Rattle.bits.proofs.BitsLaws.{set-at, clear-at, and-at, shift-at, zero-at, run-at}
 use Rattle.bits.proofs.WidthLaws.{set-keeps-only, clear-keeps-only, and-keeps-only}
 use Rattle.registers.specs.Csr.{settableBits, statusBits, storedBits, resetBits, goBit}

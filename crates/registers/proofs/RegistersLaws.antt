@@ -7,17 +7,17 @@
 --     numbered-is-in-range               a number names factor 1–8, timer 1–5, scaler 0 or 1, or another one
 -- Assumes nothing.
 use Prim.Native.Nat.{ℕ, _<_, _≤_}
-use mathlib.Core.Path.{_≡_, refl, sym}
+use mathlib.Core.Path.{_≡_}
 use mathlib.Core.Logic.{_↔_}
-use mathlib.Core.Bool.{Bool, true, false, not, _||_}
+use mathlib.Core.Bool.{true, false}
 use native.Mathlib.Omega.{arith}
 use lib.Dec.{eqb, ltb}
-use borrow.Author.Tests.{lt-leb, le-ltb, ne-eqb, le-leb, not-true, ltb-true, ltb-false, eqb-false}
-use Rattle.bits.specs.Bits.{bitAt, NoBitOutside, NoBitOutsideOf}
+use borrow.Author.Tests.{lt-leb, le-ltb, ne-eqb, le-leb, ltb-true, ltb-false, eqb-false}
+use Rattle.bits.specs.Bits.{NoBitOutside, NoBitOutsideOf}
 use Rattle.bits.proofs.TestLaws.{by-cond}
 use Rattle.bits.proofs.WidthLaws.{fits-iff-no-bit-outside, only-iff-no-bit-outside}
 use Rattle.registers.specs.Registers.{numberedOf, factorWidth, timerWidth, intervalWidth, controlBits}
-use Rattle.registers.specs.Registers.{isValidCsrValue, isValidControl, isValidFactor}
+use Rattle.registers.specs.Registers.{isValidControl, isValidFactor}
 use Rattle.registers.specs.Registers.{isValidInterval, isValidTimer, isValidAssign}
 use Rattle.registers.specs.declared.register.Register.{Register}
 use Rattle.registers.specs.declared.register.Register.the-variants.{Csr, Control, Factor, RocEnable}

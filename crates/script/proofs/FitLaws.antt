@@ -1,16 +1,15 @@
 -- The answers fit: five bytes for each byte of script.
---     hex-length        as many digits as are asked for
 --     roomOf            the most that the answer to a command takes
 --     answer-room       no answer is longer than the room of its command
 --     command-room      a line has at least a fifth of its command's room, or is empty and has room for `no 6`
 --     answer-fits       both together
 -- Assumes nothing.
-use Prim.Native.Nat.{ℕ, zero, suc, _+_, _-_, _*_, _<_, _≤_}
-use mathlib.Core.Path.{_≡_, refl, sym, ap, _∙_}
-use mathlib.Core.Bool.{Bool, true, false, cond, _&&_}
-use mathlib.Core.List.{List, [], _∷_, _++_}
+use Prim.Native.Nat.{ℕ, _+_, _-_, _*_, _≤_}
+use mathlib.Core.Path.{_≡_, refl, _∙_}
+use mathlib.Core.Bool.{Bool, true, false, cond}
+use mathlib.Core.List.{List, [], _∷_}
 use native.Mathlib.Omega.{arith}
-use lib.Dec.{eqb, lit≤}
+use lib.Dec.{eqb}
 use lib.ListN.{length, length-append}
 use borrow.Author.Tests.{eqb-true}
 use Rattle.bits.proofs.TestLaws.{and-right}
@@ -19,27 +18,23 @@ use Rattle.branch.specs.declared.Slot.the-variants as slot
 use Rattle.sequencer.specs.declared.states.Outcome.{Outcome}
 use Rattle.sequencer.specs.declared.states.Outcome.the-variants.{Nothing, Cleared, Event, Tag}
 use Rattle.supervisor.specs.declared.Answer.{Answer}
+use Rattle.core.specs.Lines.{inputsOf}
 use Rattle.calls.specs.Answers.{verdictReply, readingReply, tickReply}
 use Rattle.calls.specs.Calls.{writeRegisterOf, readRegisterOf, writeMemoryOf, readMemoryOf, tickOf}
 use Rattle.calls.specs.declared.Verdict.{Verdict}
 use Rattle.calls.specs.declared.Verdict.the-variants.{Done, Declined}
 use Rattle.calls.specs.declared.Reading.{Reading}
 use Rattle.calls.specs.declared.Reading.the-variants as reading
-use Rattle.text.specs.Text.{hex}
+use Rattle.text.proofs.PageLaws.{hex-length}
 use Rattle.reader.specs.Reader.{hasFieldOf, hasFields, hasForm, numberAt, commandOf, byteOf}
 use Rattle.reader.specs.Reader.{isWriteRegisterOf, isReadRegisterOf, isWriteMemoryOf, isReadMemoryOf, isTickOf}
 use Rattle.printer.specs.Printer.{outcomeText, slotText, sideAt, fieldsOf, spaced, replyText}
-use Rattle.script.specs.Answers.{Session, inputsOf, lineAnswer}
+use Rattle.script.specs.Answers.{Session, lineAnswer}
 use Rattle.reader.specs.declared.Command.{Command}
 use Rattle.reader.specs.declared.Command.the-variants.{WriteRegister, ReadRegister, WriteMemory}
 use Rattle.reader.specs.declared.Command.the-variants.{ReadMemory, Tick, Other}
 
 -- ---- how long a text is
-
-pub hex-length : (n v : ℕ) → length (hex n v) ≡ n
-unfolding hex
-hex-length zero v = refl
-hex-length (suc n) v = ap suc (hex-length n v)
 
 slot-length : (s : Slot) → length (slotText s) ≤ 2
 slot-length slot.Nothing = omega arith

@@ -11,8 +11,8 @@ use native.Mathlib.Numerals.{add-one}
 use lib.Dec.{eqb}
 use lib.ListN.{length, drop, getD, drop-of-length-le}
 use lib.Seq.{drop-cons}
-use Rattle.reader.proofs.ReaderLaws.{and-fails}
-use Rattle.script.specs.Answers.{isSameOf}
+use Rattle.bits.proofs.TestLaws.{and-fails}
+use Rattle.bits.specs.Bytes.{isSameOf}
 
 pub same-lengths : (a b : List ℕ) → (length a ≡ length b → ⊥) → isSameOf a b ≡ false
 unfolding isSameOf

@@ -6,18 +6,19 @@
 --     no-printed        `no 6`, printed first, is all that is printed
 --     long-script, bad-first, good-first   the three ways of a script
 -- Assumes nothing.
-use Prim.Native.Nat.{ℕ, zero, suc, _+_, _-_, _*_, _<_, _≤_}
+use Prim.Native.Nat.{ℕ, suc, _+_, _-_, _*_, _<_, _≤_}
 use mathlib.Core.Path.{_≡_, refl, sym, ap, _∙_}
 use mathlib.Core.Bool.{Bool, true, false, cond, false≢true}
 use mathlib.Core.List.{List, [], _∷_, _++_, append-nil, append-assoc}
 use native.Mathlib.Omega.{arith}
 use native.Mathlib.Numerals.{add-one}
 use lib.ListN.{length, take, drop, set, length-set, length-drop, drop-of-length-le}
-use lib.Seq.{take-suc-set, append-snoc, drop-drop, length-take-le}
+use lib.Seq.{take-suc-set, drop-drop, length-take-le}
 use borrow.Author.Tests.{lt-ltb, le-leb, lt-leb}
+use Rattle.bits.specs.Bytes.{isSameOf}
 use Rattle.reader.specs.Reader.{linesOf, lineLengthOf, commandOf}
 use Rattle.script.specs.Answers.{scriptLimit, capacity, malformed, Session, freshSession, lineAnswer, sessionAfter}
-use Rattle.script.specs.Answers.{answersFrom, isSameOf, isHeaderOf, answersAfterHeader, answersOf}
+use Rattle.script.specs.Answers.{answersFrom, isHeaderOf, answersAfterHeader, answersOf}
 use Rattle.printer.specs.Printer.{noText}
 use Rattle.text.specs.Page.{Page, page, write, writeByte}
 use Rattle.reader.specs.declared.Command.{Command}

@@ -1,13 +1,11 @@
 -- What follows from the definitions of a script's answers.
---     lines-end             a last line without its newline reads as with it
---     lines-append          the lines up to a newline do not depend on the bytes after it
 --     answers-so-far        nor does what they print
 --     answer-is-line        an answer is bytes that document 01 allows, then its one newline
 --     answers-count         as many answers as lines after the first
 -- Assumes nothing.
-use Prim.Native.Nat.{ℕ, zero, suc, _+_, _*_, _/_, _%_, _^_, _<_, _≤_}
+use Prim.Native.Nat.{ℕ, zero, suc, _+_, _/_, _%_, _^_, _<_, _≤_}
 use mathlib.Core.Path.{_≡_, refl, sym, ap, _∙_}
-use mathlib.Core.Bool.{Bool, true, false, cond, _&&_, _||_, false≢true}
+use mathlib.Core.Bool.{Bool, true, false, _||_, false≢true}
 use mathlib.Core.List.{List, [], _∷_, _++_, append-assoc}
 use native.Mathlib.Omega.{arith}
 use lib.Dec.{eqb, ltb, leb}
@@ -21,6 +19,7 @@ use Rattle.branch.specs.declared.Slot.the-variants as slot
 use Rattle.sequencer.specs.declared.states.Outcome.{Outcome}
 use Rattle.sequencer.specs.declared.states.Outcome.the-variants.{Nothing, Cleared, Event, Tag}
 use Rattle.supervisor.specs.declared.Answer.{Answer}
+use Rattle.core.specs.Lines.{inputsOf}
 use Rattle.calls.specs.Answers.{declineNumber, verdictReply, readingReply, tickReply}
 use Rattle.calls.specs.Calls.{writeRegisterOf, readRegisterOf, writeMemoryOf, readMemoryOf, tickOf}
 use Rattle.calls.specs.declared.Decline.{Decline}
@@ -30,44 +29,13 @@ use Rattle.calls.specs.declared.Verdict.the-variants.{Done, Declined}
 use Rattle.calls.specs.declared.Reading.{Reading}
 use Rattle.calls.specs.declared.Reading.the-variants as reading
 use Rattle.text.specs.Text.{newline, space, hexDigit, hex, isDecimal, isCapital}
-use Rattle.reader.specs.Reader.{beforeFirst, linesOf, commandOf}
+use Rattle.reader.specs.Reader.{commandOf}
 use Rattle.printer.specs.Printer.{outcomeText, slotText, sideAt, fieldsOf, spaced, replyText, noText}
-use Rattle.script.specs.Answers.{Session, inputsOf, lineAnswer, sessionAfter, answersFrom}
+use Rattle.script.specs.Answers.{Session, lineAnswer, sessionAfter, answersFrom}
 use Rattle.script.specs.AnswerLines.{sessionAt, letters, isIn, isPlain, Plain, OneLine, newlines}
 use Rattle.reader.specs.declared.Command.{Command}
 use Rattle.reader.specs.declared.Command.the-variants.{WriteRegister, ReadRegister, WriteMemory}
 use Rattle.reader.specs.declared.Command.the-variants.{ReadMemory, Tick, Other}
-
--- ---- lines
-
--- [Console.3] a script that ends in the middle of a line, and the same script with that line ended
-pub lines-end : (b : ℕ) (bs : List ℕ) → eqb b newline ≡ false → linesOf (bs ++ (b ∷ [])) ≡ linesOf (bs ++ (b ∷ newline ∷ []))
-unfolding linesOf
-lines-end b [] h = rw h
-lines-end b (c ∷ bs) h = ap (λ (ls : List (List ℕ)). cond (eqb c newline) ([] ∷ ls) (beforeFirst c ls)) (lines-end b bs h)
-
--- [Console.4] lines that are ended are not changed by what follows
-pub lines-append : (a b : List ℕ) → linesOf (a ++ (newline ∷ b)) ≡ linesOf (a ++ (newline ∷ [])) ++ linesOf b
-unfolding linesOf
-lines-append [] b = refl
-lines-append (c ∷ a) b =
-    ap (λ (ls : List (List ℕ)). cond (eqb c newline) ([] ∷ ls) (beforeFirst c ls)) (lines-append a b)
-    ∙ pushed c (eqb c newline) (linesOf (a ++ (newline ∷ []))) (linesOf b) (some a)
-  where
-    some : (a : List ℕ) → 0 < length (linesOf (a ++ (newline ∷ [])))
-    some [] = omega arith
-    some (c ∷ a) = more c (eqb c newline) (linesOf (a ++ (newline ∷ []))) (some a)
-      where
-        more : (c : ℕ) (t : Bool) (ls : List (List ℕ)) → 0 < length ls → 0 < length (cond t ([] ∷ ls) (beforeFirst c ls))
-        more c true ls h = omega arith
-        more c false [] h = absurd (omega arith)
-        more c false (l ∷ ls) h = omega arith
-
-    pushed : (c : ℕ) (t : Bool) (ls ms : List (List ℕ)) → 0 < length ls →
-        cond t ([] ∷ (ls ++ ms)) (beforeFirst c (ls ++ ms)) ≡ cond t ([] ∷ ls) (beforeFirst c ls) ++ ms
-    pushed c true ls ms h = refl
-    pushed c false [] ms h = absurd (omega arith)
-    pushed c false (l ∷ ls) ms h = refl
 
 -- ---- answers
 

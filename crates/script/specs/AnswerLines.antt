@@ -7,9 +7,10 @@
 -- Assumes nothing.
 use Prim.Native.Nat.{ℕ, _+_}
 use mathlib.Core.Path.{_≡_}
-use mathlib.Core.Bool.{Bool, true, false, cond, _||_}
+use mathlib.Core.Bool.{Bool, true, false, _||_}
 use mathlib.Core.List.{List, [], _∷_, _++_}
 use lib.Dec.{eqb}
+use Rattle.bits.specs.Notation.{if_then_else_}
 use Rattle.bits.specs.Bytes.{allOf}
 use Rattle.text.specs.Text.{newline, isDecimal, isCapital}
 use Rattle.reader.specs.Reader.{commandOf}
@@ -43,4 +44,4 @@ pub record OneLine (t : List ℕ) : Type 0 where
 
 abbrev pub newlines : List ℕ → ℕ
 newlines [] = 0
-newlines (b ∷ bs) = cond (eqb b newline) 1 0 + newlines bs
+newlines (b ∷ bs) = (if eqb b newline then 1 else 0) + newlines bs

@@ -1,22 +1,25 @@
 -- A console session: what each line prints and does, and what a whole script prints.
 --     document 01     "Console program"
 --     Session         the record and the memory that a console keeps
+--     freshSession    the one that a script starts with; header: a script's first line
 --     lineAnswer      what a line prints
 --     sessionAfter    the session after it
+--     answersFrom     what lines print, one after the other
 --     answersOf       all that a script prints
 -- Own rules of 01 used here: none. Decisions: K2, K3, K5. Left out: standard input and output, in console.
 -- Assumes nothing.
 use Prim.Native.Nat.{ℕ}
-use mathlib.Core.Bool.{Bool, true, false, _&&_}
+use mathlib.Core.Bool.{Bool}
 use mathlib.Core.List.{List, [], _∷_, _++_}
-use lib.Dec.{eqb, leb}
+use lib.Dec.{leb}
 use lib.ListN.{length}
 use Rattle.bits.specs.Notation.{if_then_else_}
+use Rattle.bits.specs.Bytes.{isSameOf}
 use Rattle.branches.specs.Readout.{moduleBranches}
-use Rattle.core.specs.declared.lines.Inputs.{Inputs}
+use Rattle.core.specs.Lines.{inputsOf}
 use Rattle.supervisor.specs.Supervisor.{freshOf}
 use Rattle.supervisor.specs.declared.Supervisor.{Supervisor}
-use Rattle.calls.specs.Answers.{Reply, declined}
+use Rattle.calls.specs.Answers.{Reply}
 use Rattle.calls.specs.Runs.{Ask, writeRegister, readRegister, writeMemory, readMemory, tick, askOf, memoryAfter, zeroMemory}
 use Rattle.reader.specs.Reader.{linesOf, commandOf}
 use Rattle.printer.specs.Printer.{replyText, noText}
@@ -57,9 +60,6 @@ freshSession = session (freshOf moduleBranches) zeroMemory
 
 -- ---- one line
 
-abbrev pub inputsOf : (triggers lines acks : ℕ) → Inputs
-inputsOf triggers lines acks = record { triggers = triggers; lines = record { word = lines }; acks = acks }
-
 abbrev replyTo : Ask → Session → Reply
 replyTo ask z = askOf ask (z .memory) (z .supervisor) .reply
 
@@ -93,12 +93,6 @@ sessionAfter Other z = z
 unfoldable pub answersFrom : List (List ℕ) → Session → List ℕ
 answersFrom [] z = []
 answersFrom (l ∷ ls) z = lineAnswer (commandOf l) z ++ answersFrom ls (sessionAfter (commandOf l) z)
-
-unfoldable pub isSameOf : List ℕ → List ℕ → Bool
-isSameOf [] [] = true
-isSameOf [] (c ∷ cs) = false
-isSameOf (b ∷ bs) [] = false
-isSameOf (b ∷ bs) (c ∷ cs) = eqb b c && isSameOf bs cs
 
 -- [Console.2]
 abbrev pub isHeaderOf : List ℕ → Bool

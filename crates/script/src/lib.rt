@@ -3,10 +3,11 @@
 ghost use mathlib.Core.Path.{_≡_};
 ghost use Prim.Native.Nat.{_+_, _≤_};
 ghost use lib.ListN.{take, drop, length};
+ghost use Rattle.bits.specs.Bytes.{isSameOf};
 ghost use Rattle.calls.specs.Runs.{zeroMemory};
 ghost use Rattle.reader.specs.Reader.{linesOf};
 ghost use Rattle.script.specs.Answers.{scriptLimit, capacity, freshSession};
-ghost use Rattle.script.specs.Answers.{isSameOf, isHeaderOf, answersFrom, answersOf};
+ghost use Rattle.script.specs.Answers.{isHeaderOf, answersFrom, answersOf};
 
 mod session;
 

@@ -4,7 +4,7 @@ ghost use mathlib.Core.Path.{_≡_};
 ghost use Prim.Native.Nat.{_≤_};
 ghost use Rattle.calls.specs.Answers.{verdictReply, readingReply, tickReply};
 ghost use Rattle.printer.specs.Printer.{replyText};
-ghost use Rattle.script.specs.Answers.{session, inputsOf, lineAnswer, sessionAfter};
+ghost use Rattle.script.specs.Answers.{session, lineAnswer, sessionAfter};
 ghost use Rattle.text.specs.Page.{page, write};
 use calls::ReadDone;
 use calls::TickDone;
@@ -15,7 +15,6 @@ use calls::tick;
 use calls::write_memory;
 use calls::write_register;
 use core::lines::Inputs;
-use core::lines::Lines;
 use printer::put_no;
 use printer::put_reading;
 use printer::put_tick;
@@ -35,16 +34,6 @@ const WORD_DIGITS: u32 = 4;
 pub struct LineDone {
     pub next: Supervisor,
     pub at: usize,
-}
-
-fn inputs(triggers: u32, lines: u32, acks: u32) -> Inputs
-    ensures { λ r. ⌜ r ≡ inputsOf triggers lines acks ⌝ }
-{
-    Inputs {
-        triggers,
-        lines: Lines { word: lines },
-        acks,
-    }
 }
 
 // [Console.5] what a write leaves, its answer printed
@@ -111,7 +100,11 @@ pub fn run_line(
         }
         Command::ReadMemory(place) => { gave(out, at, WORD_DIGITS, read_memory(s, memory, place)) }
         Command::Tick(triggers, lines, acks) => {
-            ran(out, at, tick(s, memory, inputs(triggers, lines, acks)))
+            ran(
+                out,
+                at,
+                tick(s, memory, Inputs::brought(triggers, lines, acks)),
+            )
         }
         Command::Other => LineDone {
             next: s,

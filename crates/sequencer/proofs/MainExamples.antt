@@ -4,9 +4,8 @@
 --     ok-words, classes, accept-raises   which words are OK, their class, and what an accept raises
 --     class3-raises, clear-falls, age-stops, age-rises   one move each
 -- Assumes nothing.
-use Prim.Native.Nat.{ℕ}
 use mathlib.Core.Path.{_≡_, refl}
-use mathlib.Core.Bool.{Bool, true, false}
+use mathlib.Core.Bool.{true, false}
 use mathlib.Core.List.{List, [], _∷_}
 use Rattle.bits.specs.Notation.{_▷_}
 use Rattle.sequencer.specs.MemoryWord.{isOkWord, classInOf}
@@ -85,10 +84,6 @@ age-stops = refl
 pub age-rises : agedOf (at Delay ▷ withAge 131069) .age ≡ 131070
 unfolding agedOf
 age-rises = refl
-
-pub idle-does-not-age : agedOf (at Idle) .age ≡ 0
-unfolding agedOf
-idle-does-not-age = refl
 
 -- ---- memory words and loaded words
 

@@ -7,34 +7,30 @@
 --     fail-beats-pass2, fail-beats-pass3, word-is-six-bit   single rules
 --     step-loads-six-bits        the word that a step loads has six bits
 -- Assumes nothing.
-use Prim.Native.Nat.{ℕ, _+_, _*_, _/_, _%_, _^_, _<_, _≤_}
+use Prim.Native.Nat.{ℕ, _+_, _*_, _%_, _<_, _≤_}
 use mathlib.Core.Path.{_≡_, refl, sym, ap, _∙_}
 use mathlib.Core.Bool.{Bool, true, false, not, _&&_, _||_, false≢true, true≢false}
 use mathlib.Core.List.{List, [], _∷_}
 use native.Mathlib.Omega.{arith}
 use native.Mathlib.Nat.{mod-lt}
-use lib.Dec.{eqb, ltb, leb, lit<, lit≤}
+use lib.Dec.{ltb, leb, lit<}
 use lib.ListN.{getD}
-use borrow.Author.Tests.{ltb-true, not-true, le-leb}
+use borrow.Author.Tests.{not-true, le-leb}
 use Rattle.bits.specs.Notation.{if_then_else_, _▷_}
-use Rattle.bits.specs.Bits.{bitAt, oneIfOf, allTrue}
+use Rattle.bits.specs.Bits.{oneIfOf, allTrue}
 use Rattle.bits.specs.Bytes.{allOf}
-use Rattle.bits.proofs.TestLaws.{and-right, and-both, implied, all-true-at, or-true, or-rest}
-use Rattle.bits.proofs.BitsLaws.{set-at}
-use Rattle.sequencer.specs.MemoryWord.{classInOf, codeIn, acceptIn, isOkWord}
-use Rattle.sequencer.specs.MainFields.{quiet, withAge, withState, withClass, withCode, withAccept}
-use Rattle.sequencer.specs.States.{isIdle, isUndecided, isLoaded, isWait2, isCleared, isEvent, isTag}
+use Rattle.bits.proofs.TestLaws.{and-both, implied, all-true-at, or-true, or-rest}
+use Rattle.sequencer.specs.MainFields.{quiet, withAge, withState}
+use Rattle.sequencer.specs.States.{isIdle, isUndecided, isLoaded, isCleared, isEvent, isTag}
 use Rattle.sequencer.specs.States.{outcomeWords}
-use Rattle.sequencer.specs.MainSequencer.{ageLimit, codeLimit, okLine, start2Line, raise}
-use Rattle.sequencer.specs.MainSequencer.{accept2Line, accept3Line, isRaised, idleOf, agedOf, acceptedOf}
-use Rattle.sequencer.specs.MainSequencer.{Level, level2, level3, Move, stays, waitsInDelay, endsDelay}
+use Rattle.sequencer.specs.MainSequencer.{ageLimit}
+use Rattle.sequencer.specs.MainSequencer.{idleOf, agedOf}
+use Rattle.sequencer.specs.MainSequencer.{level2, level3, Move, stays, waitsInDelay, endsDelay}
 use Rattle.sequencer.specs.MainSequencer.{passes2ToDelay, passes2ToWait3, passes3, failsLate, failsAndClears}
 use Rattle.sequencer.specs.MainSequencer.{loads, leavesSpace, endsSyncHold, countsClear, endsClear}
 use Rattle.sequencer.specs.MainSequencer.{moveInWait2, moveInWait3, moveIn, wordOf, afterLoad, stepBy, stepOf}
-use Rattle.sequencer.specs.MainSequencer.{WellFormedMain}
 use Rattle.sequencer.specs.declared.states.State.{State}
-use Rattle.sequencer.specs.declared.states.State.the-variants.{Idle, Delay, Wait2, Wait3}
-use Rattle.sequencer.specs.declared.states.State.the-variants.{Front, Space, SyncHold, Clear}
+use Rattle.sequencer.specs.declared.states.State.the-variants.{Idle}
 use Rattle.sequencer.specs.declared.main_sequencer.MainSequencer.{MainSequencer}
 use Rattle.sequencer.specs.declared.main_sequencer.Tests.{Tests}
 use Rattle.sequencer.specs.declared.main_sequencer.MainStep.{MainStep}

@@ -6,7 +6,7 @@ use mathlib.Core.Path.{_≡_, refl}
 use mathlib.Core.Bool.{Bool, true, false}
 use lib.Dec.{eqb, ltb}
 use Rattle.bits.specs.Notation.{if_then_else_}
-use Rattle.sequencer.specs.MainSequencer.{Level, level2, level3, Move, stays, waitsInDelay, endsDelay}
+use Rattle.sequencer.specs.MainSequencer.{level2, level3, Move, stays, waitsInDelay, endsDelay}
 use Rattle.sequencer.specs.MainSequencer.{passes2ToDelay, passes2ToWait3, passes3, loads, leavesSpace}
 use Rattle.sequencer.specs.MainSequencer.{endsSyncHold, countsClear, endsClear, failsLate, failsAndClears}
 use Rattle.sequencer.specs.MainSequencer.{moveInWait2, moveInWait3, moveInClear, bothAccepts, moveIn}

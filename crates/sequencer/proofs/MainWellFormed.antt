@@ -10,7 +10,7 @@ use native.Mathlib.Omega.{arith}
 use lib.Dec.{eqb, ltb, leb, lit<, lit≤}
 use borrow.Author.Tests.{ltb-true, leb-true, le-leb}
 use Rattle.bits.specs.Notation.{if_then_else_, _▷_}
-use Rattle.bits.specs.Bits.{bitAt, allTrue}
+use Rattle.bits.specs.Bits.{bitAt}
 use Rattle.bits.proofs.TestLaws.{and-right, implied, implies, all-true-at}
 use Rattle.sequencer.specs.MemoryWord.{classInOf, codeIn, acceptIn, isOkWord}
 use Rattle.sequencer.specs.MainFields.{withAge, withState, withClass, withCode, withAccept}

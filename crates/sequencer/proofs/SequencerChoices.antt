@@ -3,7 +3,7 @@
 --     fails2-by-choice, fails3-by-choice   for the fails of Wait 2 and Wait 3, which share their code
 -- Assumes nothing.
 use mathlib.Core.Path.{_≡_, refl, sym, ap}
-use mathlib.Core.Bool.{Bool, true, false, not, _&&_, _||_, false≢true}
+use mathlib.Core.Bool.{Bool, true, false, false≢true}
 use Rattle.bits.specs.Notation.{if_then_else_, _▷_}
 use Rattle.sequencer.specs.MainFields.{withFailed2, withFailed3}
 use Rattle.sequencer.specs.MainSequencer.{moveIn, moveInWait2, moveInWait3, stepBy, stepOf}

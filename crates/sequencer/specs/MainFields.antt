@@ -3,7 +3,7 @@
 --     quiet m       the step that leaves m and did nothing; withOutcome and so on: what it did besides
 -- Assumes nothing.
 use Prim.Native.Nat.{ℕ}
-use mathlib.Core.Bool.{Bool, true, false}
+use mathlib.Core.Bool.{Bool, false}
 use Rattle.sequencer.specs.declared.states.State.{State}
 use Rattle.sequencer.specs.declared.states.Outcome.{Outcome}
 use Rattle.sequencer.specs.declared.states.Outcome.the-variants.{Nothing}
@@ -44,8 +44,8 @@ quiet m = record { next = m; outcome = Nothing; late = false; sync = false; ende
 abbrev pub withOutcome : Outcome → MainStep → MainStep
 withOutcome v s = record { next = s .next; outcome = v; late = s .late; sync = s .sync; ended = s .ended; failed2 = s .failed2; failed3 = s .failed3 }
 
-abbrev pub withLateMark : Bool → MainStep → MainStep
-withLateMark v s = record { next = s .next; outcome = s .outcome; late = v; sync = s .sync; ended = s .ended; failed2 = s .failed2; failed3 = s .failed3 }
+abbrev pub withLateFail : Bool → MainStep → MainStep
+withLateFail v s = record { next = s .next; outcome = s .outcome; late = v; sync = s .sync; ended = s .ended; failed2 = s .failed2; failed3 = s .failed3 }
 
 abbrev pub withSync : Bool → MainStep → MainStep
 withSync v s = record { next = s .next; outcome = s .outcome; late = s .late; sync = v; ended = s .ended; failed2 = s .failed2; failed3 = s .failed3 }

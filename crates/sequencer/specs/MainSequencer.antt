@@ -17,7 +17,7 @@ use Rattle.bits.specs.Notation.{if_then_else_, _▷_}
 use Rattle.bits.specs.Bits.{bitAt, oneIfOf, setOf, allTrue}
 use Rattle.sequencer.specs.MemoryWord.{classInOf, codeIn, acceptIn}
 use Rattle.sequencer.specs.MainFields.{withAge, withState, withClear, withClass, withCode, withAccept}
-use Rattle.sequencer.specs.MainFields.{withRaised, withLate, quiet, withOutcome, withLateMark, withSync}
+use Rattle.sequencer.specs.MainFields.{withRaised, withLate, quiet, withOutcome, withLateFail, withSync}
 use Rattle.sequencer.specs.MainFields.{withEnded, withFailed2, withFailed3}
 use Rattle.sequencer.specs.States.{isIdle, isWait2}
 use Rattle.sequencer.specs.declared.states.State.{State}
@@ -158,7 +158,7 @@ failedAt level3 s = s ▷ withFailed3 true
 
 -- [Main.6] the event is marked late and goes on to Front
 abbrev pub lateStep : MainSequencer → MainStep
-lateStep m = quiet (m ▷ withLate true ▷ withState Front) ▷ withLateMark true
+lateStep m = quiet (m ▷ withLate true ▷ withState Front) ▷ withLateFail true
 
 -- [Main.6] [Main.15] the event is cleared; Clear starts with c
 abbrev pub clearedStep : (c : ℕ) → MainSequencer → MainStep

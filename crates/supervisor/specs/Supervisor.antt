@@ -25,7 +25,6 @@ use Rattle.core.specs.declared.lines.Inputs.{Inputs}
 use Rattle.core.specs.declared.Core.{Core}
 use Rattle.core.specs.declared.CoreStep.{CoreStep}
 use Rattle.supervisor.specs.declared.Supervisor.{Supervisor}
-use Rattle.supervisor.specs.declared.Answer.{Answer}
 use Rattle.supervisor.specs.declared.Ticked.{Ticked}
 
 -- ---- changes of one part

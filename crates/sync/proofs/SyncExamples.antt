@@ -6,10 +6,10 @@
 -- Assumes nothing.
 use Prim.Native.Nat.{ℕ}
 use mathlib.Core.Path.{_≡_, refl}
-use mathlib.Core.Bool.{Bool, true, false}
-use mathlib.Core.List.{List, [], _∷_}
+use mathlib.Core.Bool.{true, false}
+use mathlib.Core.List.{[], _∷_}
 use Rattle.sync.specs.SyncCounter.{isDue, afterLoadOf}
-use Rattle.sync.specs.UserSync.{moveOf, loadsTag, endsWait, stays, Move, stepOf}
+use Rattle.sync.specs.UserSync.{moveOf, loadsTag, endsWait, stays, stepOf}
 use Rattle.sync.specs.declared.counter.SyncCounter.{SyncCounter}
 
 abbrev after : (interval count : ℕ) → SyncCounter

@@ -7,9 +7,8 @@
 -- Assumes nothing.
 use Prim.Native.Nat.{ℕ, _+_, _<_, _≤_}
 use mathlib.Core.Path.{_≡_, refl, sym, ap}
-use mathlib.Core.Bool.{Bool, true, false, not, _&&_, _||_, true≢false, false≢true}
+use mathlib.Core.Bool.{Bool, true, false, not, _&&_, _||_, false≢true}
 use native.Mathlib.Omega.{arith}
-use lib.Dec.{leb, ltb, lit<}
 use borrow.Author.Tests.{leb-false, le-leb}
 use Rattle.bits.specs.Notation.{if_then_else_, _▷_}
 use Rattle.sync.specs.SyncCounter.{countLimit, withCount, isCounting, reachesInterval, isDue, afterLoadOf}

@@ -3,7 +3,7 @@ ghost use mathlib.Core.Path.{_≡_};
 ghost use Rattle.sync.specs.UserSync.{freshOf, stepOf};
 
 pub struct UserSync {
-    // its tag is loaded, and some branch still holds a word
+    // its tag is loaded, and the tick that finds every branch empty has not come
     pub waiting: bool,
 }
 

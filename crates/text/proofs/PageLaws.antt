@@ -2,12 +2,14 @@
 --     write-append     a text and then another are the one followed by the other
 --     write-4, write-5 .. for four and five texts
 --     write-none, write-hex   no text, and the digits of a word one by one
+--     hex-length       as many digits as are asked for
 --     power-of-digits  the code's shift by 4 bits a digit is a division by 16 a digit
 -- Assumes nothing.
-use Prim.Native.Nat.{ℕ, zero, suc, _+_, _-_, _*_, _/_, _%_, _^_, _<_, _≤_}
-use mathlib.Core.Path.{_≡_, refl}
+use Prim.Native.Nat.{ℕ, zero, suc, _-_, _*_, _/_, _%_, _^_, _<_, _≤_}
+use mathlib.Core.Path.{_≡_, refl, ap}
 use mathlib.Core.List.{List, [], _∷_, _++_}
 use native.Mathlib.Omega.{arith}
+use lib.ListN.{length}
 use Rattle.text.specs.Text.{hexDigit, hex}
 use Rattle.text.specs.Page.{Page, write, writeByte}
 
@@ -37,6 +39,11 @@ pub write-none : (n v : ℕ) (p : Page) → n ≤ 0 → write (hex n v) p ≡ p
 unfolding hex write
 write-none zero v p h = refl
 write-none (suc n) v p h = absurd (omega arith)
+
+pub hex-length : (n v : ℕ) → length (hex n v) ≡ n
+unfolding hex
+hex-length zero v = refl
+hex-length (suc n) v = ap suc (hex-length n v)
 
 pub power-of-digits : (n : ℕ) → 2 ^ (4 * n) ≡ 16 ^ n
 power-of-digits zero = refl

@@ -1,5 +1,6 @@
 -- The bytes that a script and its answers are made of.
 --     document 01     "Console program"
+--     tab, newline, space   the bytes that part fields and lines
 --     hexDigit        the byte of one hexadecimal digit, a capital above 9
 --     hex n v         n such digits of v, the highest first
 --     isDigitOf       whether a byte is such a digit; digitOf: its value

@@ -1,5 +1,5 @@
 // The bytes that a script and its answers are made of: hexadecimal digits, and the buffer that answers are printed in
-// (document 01, "Console program"). Every function that prints has one contract: the page after it is the page before it
+// (document 01, "Console program"; specs/Text.antt). Every function that prints has one contract: the page after it is the page before it
 // with its text written on (specs/Page.antt). A full page takes nothing more, so none asks how much room is left.
 ghost use mathlib.Core.Path.{_≡_};
 ghost use Prim.Native.Nat.{_/_, _%_, _^_, _<_, _≤_};

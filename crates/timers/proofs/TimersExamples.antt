@@ -3,8 +3,8 @@
 --     front-at-four, clear-at-least-one
 -- Assumes nothing.
 use mathlib.Core.Path.{_≡_, refl}
-use mathlib.Core.Bool.{Bool, true, false}
-use mathlib.Core.List.{List, [], _∷_}
+use mathlib.Core.Bool.{true, false}
+use mathlib.Core.List.{[], _∷_}
 use Rattle.timers.specs.Timers.{isLateDue, frontTestOf, clearCountOf}
 use Rattle.timers.specs.declared.Timers.{Timers}
 

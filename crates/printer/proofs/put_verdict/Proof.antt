@@ -14,7 +14,7 @@ unfolding write
 returns-2 c =
     rw (
       c .before .before .put-no .ensures,
-      c .before .before .before .number-of .ensures .0,
+      c .before .before .before .number .ensures .0,
       c .before .before .before .before .before .before .answer .given .1,
     )
 

@@ -1,5 +1,5 @@
 -- `reader::first_line` meets its contract: the line is the part of the rest before its first newline.
--- Written by tools/prove.py; no answer was changed by hand. Assumes nothing.
+-- Written by tools/prove.py; the answers with a name were written by hand. Assumes nothing.
 use mathlib.Core.Path.{sym}
 use lib.Seq.{length-take-le}
 use borrow.Author.Needs.{needs}

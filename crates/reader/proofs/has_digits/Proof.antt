@@ -4,13 +4,13 @@ use Prim.Native.Nat.{ℕ, _+_, _-_, _<_, _≤_}
 use mathlib.Core.Path.{_≡_, sym, ap, _∙_}
 use mathlib.Core.Bool.{true}
 use native.Mathlib.Omega.{arith}
-use borrow.Author.Count.{below-none, below-more}
+use borrow.Author.Count.{below-more}
 use borrow.Author.Needs.{needs}
 use borrow.Author.Tests.{not-true, not-false}
 use Rattle.bits.proofs.TestLaws.{at-every}
 use Rattle.text.specs.Text.{isDigitOf}
 use Rattle.reader.specs.Reader.{byteOf}
-use Rattle.reader.proofs.ReaderLaws.{every-fails}
+use Rattle.bits.proofs.TestLaws.{every-fails}
 use Rattle.reader.proofs.has_digits.Statement.{statement}
 use Rattle.reader.proofs.has_digits.Tie as tie
 

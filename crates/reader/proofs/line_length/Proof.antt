@@ -1,7 +1,7 @@
 -- `reader::line_length` meets its contract. The loop's invariant: the bytes passed and the length of the rest's
 -- first line are that line's length; the measure is what is left. Written by hand over the lines that `rt dev` prints.
 -- Assumes nothing.
-use Prim.Native.Nat.{ℕ, _+_, _-_, _<_, _≤_}
+use Prim.Native.Nat.{_+_, _-_, _≤_}
 use mathlib.Core.Path.{_≡_, sym, _∙_}
 use native.Mathlib.Omega.{arith}
 use lib.ListN.{length, drop}

@@ -1,7 +1,7 @@
 -- `reader::number_at` meets its contract. The loop's invariant: the value is the number of the digits passed, and
 -- fits them; the measure is what is left of the count. Written by hand over the lines that `rt dev` prints. Assumes nothing.
 use Prim.Native.Nat.{ℕ, _+_, _-_, _<_, _≤_, _*_, _^_}
-use mathlib.Core.Path.{_≡_, refl, sym, ap, _∙_}
+use mathlib.Core.Path.{_≡_, refl, ap, _∙_}
 use native.Mathlib.Omega.{arith}
 use native.Mathlib.Nat.{pow-le-pow-right, pow-succ'}
 use native.Mathlib.Numerals.{add-one}

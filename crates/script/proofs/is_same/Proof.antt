@@ -1,13 +1,13 @@
 -- `script::is_same` meets its contract. The loop's invariant: the two lists are the same if their rests are; the measure
 -- is what is left. Written by hand over the lines that `rt dev` prints. Assumes nothing.
-use Prim.Native.Nat.{ℕ, _-_, _<_, _≤_}
+use Prim.Native.Nat.{_-_, _<_, _≤_}
 use mathlib.Core.Path.{_≡_, refl, sym, _∙_}
 use native.Mathlib.Omega.{arith}
 use lib.ListN.{length, drop}
 use borrow.Author.Needs.{needs}
 use borrow.Author.Tests.{eq-eqb, ne-eqb}
 use Rattle.script.proofs.HeaderLaws.{same-lengths, same-after, same-fails, same-ends}
-use Rattle.script.specs.Answers.{isSameOf}
+use Rattle.bits.specs.Bytes.{isSameOf}
 use Rattle.script.proofs.is_same.Statement.{statement}
 use Rattle.script.proofs.is_same.Tie as tie
 

@@ -1,6 +1,6 @@
 -- `text::put_hex` meets its contract. The loop's invariant: the digits left, written on the page as it is, give the
 -- page asked for; the measure is how many are left. Written by hand over the lines that `rt dev` prints. Assumes nothing.
-use Prim.Native.Nat.{ℕ, _-_, _<_, _≤_}
+use Prim.Native.Nat.{ℕ, _-_, _≤_}
 use mathlib.Core.Path.{_≡_, refl, sym, ap, _∙_}
 use native.Mathlib.Omega.{arith}
 use lib.ListN.{length}

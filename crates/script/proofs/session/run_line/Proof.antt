@@ -37,7 +37,7 @@ returns-5 : tie.Need-returns-5
 returns-5 c =
     let printed = c .before .before .ran .ensures in
     let done = c .before .before .before .tick .ensures in
-    let brought = c .before .before .before .before .inputs .ensures in
+    let brought = c .before .before .before .before .brought .ensures in
     let asked = c .before .before .before .before .before .before .before .before .command5 .given .1 in
     (rw (printed .0, done, brought, asked), rw (printed .1, done, brought, asked))
 

@@ -1,7 +1,7 @@
 -- `registers::control::Control::counted` meets its contract: its test is the strobe's part of the rule, and each return
 -- has the rule's bits (`counted-when-open`, `counted-when-shut`).
 -- Written by hand over the lines that `rt dev` prints. Assumes nothing.
-use mathlib.Core.Path.{_≡_, sym, ap, _∙_}
+use mathlib.Core.Path.{sym, ap, _∙_}
 use mathlib.Core.Bool.{Bool, not, _||_}
 use borrow.Author.Needs.{needs}
 use Rattle.registers.proofs.ControlLaws.{counted-when-open, counted-when-shut}

@@ -1,7 +1,7 @@
 -- `sequencer::main_sequencer::MainSequencer::in_wait2` meets its contract: a fail is `fails2-by-choice`; else each return is the move that its tests choose.
 -- Written by tools/prove.py; `returns` was written by hand. Assumes nothing.
 use borrow.Author.Tests.{eq-eqb, ne-eqb}
-use mathlib.Core.Path.{_≡_, ap, _∙_}
+use mathlib.Core.Path.{ap, _∙_}
 use mathlib.Core.Bool.{true}
 use Rattle.sequencer.specs.MainFields.{withFailed2}
 use borrow.Author.Needs.{needs}

@@ -1,6 +1,6 @@
 -- `sequencer::main_sequencer::MainSequencer::in_wait3` meets its contract: a fail is `fails3-by-choice`; else each return is the move that its tests choose.
 -- Written by tools/prove.py; `returns` was written by hand. Assumes nothing.
-use mathlib.Core.Path.{_≡_, ap, _∙_}
+use mathlib.Core.Path.{ap, _∙_}
 use mathlib.Core.Bool.{true}
 use Rattle.sequencer.specs.MainFields.{withFailed3}
 use borrow.Author.Needs.{needs}
