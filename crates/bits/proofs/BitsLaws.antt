@@ -27,6 +27,7 @@ use lib.ListN.{length, getD}
 use lib.Dec.{eqb, ltb, leb, lit<, leb·zero, leb·suc-zero, leb·suc-suc}
 use borrow.Author.Tests.{eq-eqb, ne-eqb, lt-ltb, eqb-false, ltb-true, ltb-false}
 use Rattle.bits.specs.Bits.{bitAt, bitsFrom, oneIfOf, maskOf, tabulate, setOf, clearOf}
+use Rattle.bits.proofs.TestLaws.{and-fails}
 
 -- ---- one operation of lib.Bits, bit by bit
 
@@ -266,17 +267,13 @@ mask-of-bits n w =
 
 -- ---- masks at another width, and cleared
 
-and-false : (t : Bool) → (t && false) ≡ false
-and-false true = refl
-and-false false = refl
-
 pub mask-wider : (n m : ℕ) (f : ℕ → Bool) → n ≤ m → ((i : ℕ) → n ≤ i → f i ≡ false) → maskOf n f ≡ maskOf m f
 mask-wider n m f wide none =
     words-equal-by-bits (maskOf n f) (maskOf m f) (λ i. mask-at n f i ∙ go i (ltb i n) refl ∙ sym (mask-at m f i))
   where
     go : (i : ℕ) (t : Bool) → ltb i n ≡ t → (t && f i) ≡ (ltb i m && f i)
     go i true e = ap (λ (t : Bool). t && f i) (sym (lt-ltb i m (omega (arith, ltb-true i n e))))
-    go i false e = sym (ap (λ (t : Bool). ltb i m && t) (none i (ltb-false i n e)) ∙ and-false (ltb i m))
+    go i false e = sym (and-fails (ltb i m) (none i (ltb-false i n e)))
 
 pub clear-mask : (n w : ℕ) (f : ℕ → Bool) → clearOf (maskOf n f) (w % 2 ^ n) ≡ maskOf n (λ i. bitAt w i && not (f i))
 clear-mask n w f =

@@ -15,6 +15,7 @@ use lib.Pow.{pow-pos, pow-mono, split}
 use lib.Dec.{eqb}
 use borrow.Author.Tests.{eq-eqb, lt-ltb, ltb-true, eqb-true}
 use Rattle.bits.specs.Bits.{bitAt, setOf, clearOf, fitsIn, hasOnly, NoBitOutside, NoBitOutsideOf}
+use Rattle.bits.proofs.TestLaws.{and-fails}
 use Rattle.bits.proofs.BitsLaws.{or-at, and-at, set-at, clear-at, shift-at, no-bit-is-zero, words-equal-by-bits}
 
 -- ---- no bit outside n bits, no bit outside a mask
@@ -60,10 +61,6 @@ only-iff-no-bit-outside m w = (below, only)
 or-false : (a b : Bool) → a ≡ false → b ≡ false → (a || b) ≡ false
 or-false a b p q = ap₂ _||_ p q
 
-and-false-r : (a b : Bool) → b ≡ false → (a && b) ≡ false
-and-false-r true b q = q
-and-false-r false b q = refl
-
 and-false-l : (a b : Bool) → a ≡ false → (a && b) ≡ false
 and-false-l a b p = ap (λ (t : Bool). t && b) p
 
@@ -83,4 +80,4 @@ module _ (m w k : ℕ) where
   pub and-keeps-only : hasOnly m k ≡ true → hasOnly m (bitAnd w k) ≡ true
   and-keeps-only q =
       only-iff-no-bit-outside m (bitAnd w k) .1
-      (λ i h. and-at w k i ∙ and-false-r (bitAt w i) (bitAt k i) (only-iff-no-bit-outside m k .0 q i h))
+      (λ i h. and-at w k i ∙ and-fails (bitAt w i) (only-iff-no-bit-outside m k .0 q i h))

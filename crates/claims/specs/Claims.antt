@@ -11,7 +11,7 @@
 --     read_memory            calls/specs/Calls, readMemoryOf; the memory is lent for reading only
 --     tick                   calls/specs/Calls, tickOf; the memory is lent for reading only
 -- The console's contract is proved in `script`, for every script:
---     answers                script/specs/Answers, answersOf: the bytes printed, which always fit; the rest of the buffer
+--     answers                script/specs/Script, answersOf: the bytes printed, which always fit; the rest of the buffer
 --                            is left open
 -- That a function is proved says besides that it does nothing undefined and that it ends.
 -- Assumes nothing.
@@ -32,7 +32,7 @@ use Rattle.reach.specs.NeverSpoiled.{OfType, KeepsUnspoiled, NeverSpoiled}
 use Rattle.bench.specs.Bench.{examples, allRight}
 use Rattle.text.specs.Text.{newline}
 use Rattle.reader.specs.Reader.{linesOf}
-use Rattle.script.specs.Answers.{Session, lineAnswer, answersFrom}
+use Rattle.script.specs.Script.{Session, lineAnswer, answersFrom}
 use Rattle.script.specs.AnswerLines.{sessionAt, OneLine, newlines}
 use Rattle.reader.specs.declared.Command.{Command}
 

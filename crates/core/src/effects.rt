@@ -29,7 +29,7 @@ pub fn word_at(memory: &[u16], pattern: u32) -> u16
 }
 
 // [Ready.2] [Ready.3] [Ready.4] [Ready.5]
-pub fn latched_pulses(ready: bool, word: u16, passed: u32) -> Latch
+pub fn latch_of(ready: bool, word: u16, passed: u32) -> Latch
     ensures { λ r. ⌜ r ≡ latchOf ready (isOkWord word) passed ⌝ }
 {
     if ready {
@@ -84,7 +84,7 @@ pub fn sync_after(sync: SyncCounter, enabled: bool, m: MainStep, u: UserStep) ->
     sync
 }
 
-pub fn outcome_after(m: MainStep, u: UserStep) -> Outcome
+pub fn outcome_of(m: MainStep, u: UserStep) -> Outcome
     ensures { λ r. ⌜ r ≡ outcomeOf m u ⌝ }
 {
     if u.tag {

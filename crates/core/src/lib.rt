@@ -24,9 +24,9 @@ mod effects;
 pub mod lines;
 
 use effects::csr_after;
-use effects::latched_pulses;
+use effects::latch_of;
 use effects::masks_of;
-use effects::outcome_after;
+use effects::outcome_of;
 use effects::signals_of;
 use effects::sync_after;
 use effects::word_at;
@@ -177,7 +177,7 @@ impl Core {
         CoreStep {
             next,
             masks: masks_of(p, latch),
-            outcome: outcome_after(m, u),
+            outcome: outcome_of(m, u),
         }
     }
 
@@ -216,7 +216,7 @@ impl Core {
         let lines = x.lines;
         let p = self.pulsed(x);
         let word = word_at(memory, p.passed);
-        let latch = latched_pulses(state.is_idle() & self.is_open(lines), word, p.passed);
+        let latch = latch_of(state.is_idle() & self.is_open(lines), word, p.passed);
         let m = self.main_step(lines, latch, word, room, empty);
         let u = user.step(csr.wants_user_sync(), state.is_idle(), empty);
         self.settled(lines, p, latch, m, u)

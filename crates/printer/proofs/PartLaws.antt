@@ -8,7 +8,7 @@ use Rattle.text.specs.Text.{newline, space, hex}
 use Rattle.text.specs.Page.{Page, write, writeByte}
 use Rattle.text.proofs.PageLaws.{write-append}
 use Rattle.printer.specs.Printer.{outcomeText, fieldsOf, spaced}
-use Rattle.printer.specs.Parts.{maskPart, masksPart, slotPart, sidesPart}
+use Rattle.printer.specs.TickParts.{maskPart, masksPart, slotPart, sidesPart}
 
 -- the parts that the code prints, one after the other, are the fifteen fields
 pub tick-by-parts : (a : Answer) (p : Page) →

@@ -1,3 +1,3 @@
 -- The definitions, in the order of reading. Nothing is decided here. Assumes nothing.
 pub mod Printer
-pub mod Parts
+pub mod TickParts

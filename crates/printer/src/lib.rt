@@ -1,4 +1,4 @@
-// How an answer is printed (document 01, "Console program"). The definitions are in specs/Printer.antt, and in specs/Parts.antt
+// How an answer is printed (document 01, "Console program"). The definitions are in specs/Printer.antt, and in specs/TickParts.antt
 // for the parts of a tick's answer. Each function writes its text on the page from `at` on and answers the place after it.
 ghost use mathlib.Core.Path.{_≡_};
 ghost use Prim.Native.Nat.{_≤_};
@@ -6,7 +6,7 @@ ghost use mathlib.Core.List.{[], _∷_, _++_};
 ghost use Rattle.calls.specs.Answers.{verdictReply, readingReply, tickReply, ticked};
 ghost use Rattle.text.specs.Text.{newline, hex};
 ghost use Rattle.printer.specs.Printer.{outcomeText, slotText, noText, okText, replyText};
-ghost use Rattle.printer.specs.Parts.{maskPart, masksPart, slotPart, slotOf, sidesPart};
+ghost use Rattle.printer.specs.TickParts.{maskPart, masksPart, slotPart, slotOf, sidesPart};
 ghost use Rattle.text.specs.Page.{page, write};
 use branch::Slot;
 use branches::Side;

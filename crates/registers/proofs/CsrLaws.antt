@@ -13,6 +13,7 @@ use lib.Bits.{bitAnd}
 use lib.Dec.{ltb, leb, leb·zero}
 use borrow.Author.Tests.{lt-ltb}
 use Rattle.bits.specs.Bits.{bitAt, bitsFrom, setOf}
+use Rattle.bits.proofs.TestLaws.{and-fails}
 use Rattle.bits.proofs.BitsLaws.{set-at, clear-at, and-at, shift-at, zero-at, run-at}
 use Rattle.bits.proofs.WidthLaws.{set-keeps-only, clear-keeps-only, and-keeps-only}
 use Rattle.registers.specs.Csr.{settableBits, statusBits, storedBits, resetBits, goBit}
@@ -37,10 +38,6 @@ settable-at v i = and-at v settableBits i ∙ ap (λ (t : Bool). bitAt v i && t)
 and-true : (t : Bool) → t ≡ (t && true)
 and-true true = refl
 and-true false = refl
-
-and-false : (t : Bool) → (t && false) ≡ false
-and-false true = refl
-and-false false = refl
 
 cleared-if-at : (t : Bool) (m : ℕ) (c : Csr) (i : ℕ)
     → hasBit (clearedIfOf t m c) i ≡ (hasBit c i && not (t && bitAt m i))
@@ -122,13 +119,13 @@ pub clear-wins : (v : ℕ) (c : Csr) (i : ℕ)
 clear-wins v c i h clears =
     set-then-cleared-at v c i
     ∙ ap₂ (λ (t u : Bool). (hasBit c i || (bitAt v i && u)) && not (t && u)) clears (lt-ltb i 12 h)
-    ∙ and-false (hasBit c i || (bitAt v i && true))
+    ∙ and-fails (hasBit c i || (bitAt v i && true)) refl
 
 pub reset-clears : (v : ℕ) (c : Csr) (i : ℕ) → i < 4 → hasBit (afterRequestOf Reset v c) i ≡ false
 reset-clears v c i h =
     after-request-at Reset v c i
     ∙ ap (λ (t : Bool). bitChanged v c i && not t) (lt-ltb i 4 h)
-    ∙ and-false (bitChanged v c i)
+    ∙ and-fails (bitChanged v c i) refl
 
 -- ---- a stored CSR stays valid
 

@@ -14,7 +14,7 @@ use Rattle.bits.specs.Notation.{if_then_else_}
 use Rattle.bits.specs.Bytes.{allOf}
 use Rattle.text.specs.Text.{newline, isDecimal, isCapital}
 use Rattle.reader.specs.Reader.{commandOf}
-use Rattle.script.specs.Answers.{Session, sessionAfter}
+use Rattle.script.specs.Script.{Session, sessionAfter}
 
 -- the session after these lines
 abbrev pub sessionAt : List (List ℕ) → Session → Session

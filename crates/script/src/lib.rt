@@ -1,13 +1,13 @@
 // The console's script (document 01, "Console program"): a script goes in, its answers come out. The definitions are in
-// specs/Answers.antt. `answers` has no `requires`: it answers every script, and what it prints always fits.
+// specs/Script.antt. `answers` has no `requires`: it answers every script, and what it prints always fits.
 ghost use mathlib.Core.Path.{_≡_};
 ghost use Prim.Native.Nat.{_+_, _≤_};
 ghost use lib.ListN.{take, drop, length};
 ghost use Rattle.bits.specs.Bytes.{isSameOf};
 ghost use Rattle.calls.specs.Runs.{zeroMemory};
 ghost use Rattle.reader.specs.Reader.{linesOf};
-ghost use Rattle.script.specs.Answers.{scriptLimit, capacity, freshSession};
-ghost use Rattle.script.specs.Answers.{isHeaderOf, answersFrom, answersOf};
+ghost use Rattle.script.specs.Script.{scriptLimit, capacity, freshSession};
+ghost use Rattle.script.specs.Script.{isHeaderOf, answersFrom, answersOf};
 
 mod session;
 
@@ -56,7 +56,7 @@ fn is_header(line: &[u8]) -> bool
 }
 
 // [Console.1]
-fn zeros() -> [u16; MEMORY_PLACES]
+fn zero_memory() -> [u16; MEMORY_PLACES]
     ensures { λ r. ⌜ r ≡ zeroMemory ⌝ }
 {
     [0u16; MEMORY_PLACES]
@@ -70,7 +70,7 @@ fn run_from(script: &[u8], start: usize, out: &mut [u8]) -> usize
     ensures { λ r. ⌜ take r (now (out .exit)) ≡ answersFrom (linesOf (drop start (now (script .entry)))) freshSession ⌝ }
     ensures { λ r. ⌜ r ≤ capacity ⌝ }
 {
-    let mut memory = zeros();
+    let mut memory = zero_memory();
     let mut s = Supervisor::fresh();
     let mut at = start;
     let mut printed = 0;

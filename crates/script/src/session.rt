@@ -1,10 +1,10 @@
 // A console session (document 01, "Console program"): each line is one public call, and its answer is printed. The
-// definitions are in specs/Answers.antt.
+// definitions are in specs/Script.antt.
 ghost use mathlib.Core.Path.{_≡_};
 ghost use Prim.Native.Nat.{_≤_};
 ghost use Rattle.calls.specs.Answers.{verdictReply, readingReply, tickReply};
 ghost use Rattle.printer.specs.Printer.{replyText};
-ghost use Rattle.script.specs.Answers.{session, lineAnswer, sessionAfter};
+ghost use Rattle.script.specs.Script.{session, lineAnswer, sessionAfter};
 ghost use Rattle.text.specs.Page.{page, write};
 use calls::ReadDone;
 use calls::TickDone;

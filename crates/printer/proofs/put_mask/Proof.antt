@@ -2,7 +2,7 @@
 -- (`write-append`). Written by tools/prove.py; `returns` was changed by hand. Assumes nothing.
 use Rattle.text.specs.Page.{write}
 use Rattle.text.proofs.PageLaws.{write-append}
-use Rattle.printer.specs.Parts.{maskPart}
+use Rattle.printer.specs.TickParts.{maskPart}
 use borrow.Author.Needs.{needs}
 use Rattle.printer.proofs.put_mask.Statement.{statement}
 use Rattle.printer.proofs.put_mask.Tie as tie

@@ -1,7 +1,7 @@
 -- `printer::put_masks` meets its contract: five masks one after the other; the writes are the write of their
 -- join (`write-5`). Written by tools/prove.py; `returns` was changed by hand. Assumes nothing.
 use Rattle.text.proofs.PageLaws.{write-5}
-use Rattle.printer.specs.Parts.{masksPart}
+use Rattle.printer.specs.TickParts.{masksPart}
 use borrow.Author.Needs.{needs}
 use Rattle.printer.proofs.put_masks.Statement.{statement}
 use Rattle.printer.proofs.put_masks.Tie as tie

@@ -1,7 +1,7 @@
 -- `printer::put_part` meets its contract: the space, then the slot, which `write` takes in turn. Written by
 -- tools/prove.py; no answer was changed by hand. Assumes nothing.
 use Rattle.text.specs.Page.{write}
-use Rattle.printer.specs.Parts.{slotPart}
+use Rattle.printer.specs.TickParts.{slotPart}
 use borrow.Author.Needs.{needs}
 use Rattle.printer.proofs.put_part.Statement.{statement}
 use Rattle.printer.proofs.put_part.Tie as tie

@@ -1,7 +1,7 @@
 -- `printer::put_sides` meets its contract: four slots one after the other; the writes are the write of their
 -- join (`write-4`). Written by tools/prove.py; `returns` was changed by hand. Assumes nothing.
 use Rattle.text.proofs.PageLaws.{write-4}
-use Rattle.printer.specs.Parts.{sidesPart}
+use Rattle.printer.specs.TickParts.{sidesPart}
 use borrow.Author.Needs.{needs}
 use Rattle.printer.proofs.put_sides.Statement.{statement}
 use Rattle.printer.proofs.put_sides.Tie as tie

@@ -6,7 +6,7 @@ use lib.ListN.{length, take, drop}
 use lib.Seq.{length-take-le}
 use borrow.Author.Tests.{not-true, not-false}
 use Rattle.reader.specs.Reader.{linesOf}
-use Rattle.script.specs.Answers.{capacity, freshSession, isHeaderOf, answersFrom}
+use Rattle.script.specs.Script.{capacity, freshSession, isHeaderOf, answersFrom}
 use Rattle.script.proofs.RunLaws.{no-printed, long-script, bad-first, good-first}
 use borrow.Author.Needs.{needs}
 use Rattle.script.proofs.answers.Statement.{statement}

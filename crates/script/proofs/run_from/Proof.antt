@@ -10,8 +10,8 @@ use lib.Seq.{take-all}
 use borrow.Author.Needs.{needs}
 use Rattle.calls.specs.Calls.{memoryPlaces}
 use Rattle.reader.specs.Reader.{linesOf, firstLineOf}
-use Rattle.script.specs.Answers.{scriptLimit, capacity, session, freshSession, lineAnswer, sessionAfter}
-use Rattle.script.specs.Answers.{answersFrom}
+use Rattle.script.specs.Script.{scriptLimit, capacity, session, freshSession, lineAnswer, sessionAfter}
+use Rattle.script.specs.Script.{answersFrom}
 use Rattle.text.specs.Page.{page, write}
 use Rattle.reader.specs.declared.Command.{Command}
 use Rattle.reader.specs.declared.Line.{Line}
@@ -37,11 +37,11 @@ unfolding freshSession
 loop-holds c =
     let start = c .before .before .before .before in (
       start .pre .1 .1,
-      ap length (c .before .zeros .ensures) ∙ length-replicate {A = ℕ} memoryPlaces 0,
+      ap length (c .before .zero-memory .ensures) ∙ length-replicate {A = ℕ} memoryPlaces 0,
       start .pre .1 .0,
       omega (arith, start .pre .0),
       λ j. answersFrom (linesOf (drop (start .args .start) (start .args .script .now)))
-          (session (c .fresh .ensures j) (c .before .zeros .ensures j)),
+          (session (c .fresh .ensures j) (c .before .zero-memory .ensures j)),
     )
 
 sub-first-line : tie.Need-sub-first-line Inv-loop μ-loop

@@ -9,7 +9,7 @@ returns : tie.Need-returns
 unfolding settledOf
 returns c =
     rw (
-      c .outcome-after .ensures,
+      c .outcome-of .ensures,
       c .before .masks-of .ensures,
       c .before .before .sync-after .ensures,
       c .before .before .before .enables-sync .ensures,

@@ -14,7 +14,7 @@ returns c =
       c .before .before .is-idle2 .ensures,
       c .before .before .before .wants-user-sync .ensures,
       c .before .before .before .before .main-step .ensures,
-      c .before .before .before .before .before .latched-pulses .ensures,
+      c .before .before .before .before .before .latch-of .ensures,
       c .before .before .before .before .before .before .is-open .ensures,
       c .before .before .before .before .before .before .before .is-idle .ensures,
       c .before .before .before .before .before .before .before .before .word-at .ensures,

@@ -1,8 +1,8 @@
--- `core::effects::latched_pulses` meets its contract: one return for each of ready and OK, ready and not OK, not ready.
+-- `core::effects::latch_of` meets its contract: one return for each of ready and OK, ready and not OK, not ready.
 -- Written by tools/prove.py; no answer was changed by hand. Assumes nothing.
 use borrow.Author.Needs.{needs}
-use Rattle.core.proofs.effects.latched_pulses.Statement.{statement}
-use Rattle.core.proofs.effects.latched_pulses.Tie as tie
+use Rattle.core.proofs.effects.latch_of.Statement.{statement}
+use Rattle.core.proofs.effects.latch_of.Tie as tie
 
 returns : tie.Need-returns
 returns c = rw (← c .before .is-ok-word .ensures, c .if2 .taken, c .before .before .if1 .taken)
@@ -13,5 +13,5 @@ returns-2 c = rw (← c .before .is-ok-word .ensures, c .if2 .left, c .before .b
 returns-3 : tie.Need-returns-3
 returns-3 c = rw (c .if1 .left)
 
-pub latched-pulses-spec : {M : Type 1} → statement M
-latched-pulses-spec = tie.close (tie.spec (λ c κs. search needs) returns returns-2 returns-3)
+pub latch-of-spec : {M : Type 1} → statement M
+latch-of-spec = tie.close (tie.spec (λ c κs. search needs) returns returns-2 returns-3)

@@ -1,0 +1,11 @@
+-- `core::effects::outcome_of` meets its contract: one return for each choice.
+-- Written by tools/prove.py; no answer was changed by hand. Assumes nothing.
+use borrow.Author.Needs.{needs}
+use Rattle.core.proofs.effects.outcome_of.Statement.{statement}
+use Rattle.core.proofs.effects.outcome_of.Tie as tie
+
+returns : tie.Need-returns
+returns c = rw (c .if1 .taken)
+
+pub outcome-of-spec : {M : Type 1} → statement M
+outcome-of-spec = tie.close (tie.spec returns (λ c. search needs))
