@@ -6,10 +6,10 @@ use Rattle.pace.proofs.run_ticks.Statement.{statement}
 use Rattle.pace.proofs.run_ticks.Tie as tie
 
 abbrev Inv-loop : tie.InvT-loop
-Inv-loop n memory table «record» s₀ sum₀ i₀ s sum i = (i ≤ n) × (n ≤ 18446744073709551615)
+Inv-loop n memory table s₀ sum₀ i₀ s sum i = (i ≤ n) × (n ≤ 18446744073709551615)
 
 abbrev μ-loop : tie.MeasureT-loop
-μ-loop n memory table «record» s₀ sum₀ i₀ s sum i = n - i
+μ-loop n memory table s₀ sum₀ i₀ s sum i = n - i
 
 pub run-ticks-spec : {M : Type 1} → statement M
 run-ticks-spec =

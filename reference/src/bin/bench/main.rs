@@ -3,31 +3,22 @@
 //! Both run the same loop over the same table of inputs and fold every field of every answer into a sum; the two sums
 //! must be equal. Settings come from the table, so that the compiler knows none of them.
 
+mod traffic;
+
 use reference::machine::{Answer, Count20, Count40, Outcome, Supervisor, MEMORY_WORDS};
 use std::hint::black_box;
 use std::process::ExitCode;
 use std::time::Instant;
-
-/// Inputs of the table; after them stand the registers 0–19 and the counters, the first numbers of a record.
-const INPUTS: usize = 16_384;
+use traffic::{holding, memory, table, BUSY, IDLE, INPUTS};
 
 extern "C" {
-    fn run_ticks(
-        n: u64,
-        memory: *const u16,
-        memory_len: usize,
-        table: *const u64,
-        table_len: usize,
-        record: *const u64,
-        record_len: usize,
-    ) -> u64;
+    fn run_ticks(n: u64, memory: *const u16, memory_len: usize, table: *const u64, table_len: usize) -> u64;
 }
 
 #[inline(never)]
 fn proved_ticks(n: u64, memory: &[u16], table: &[u64]) -> u64 {
-    let (inputs, record) = table.split_at(INPUTS);
     // SAFETY: each pointer goes with the length of its slice, and `run_ticks` has no `requires`.
-    unsafe { run_ticks(n, memory.as_ptr(), memory.len(), inputs.as_ptr(), inputs.len(), record.as_ptr(), record.len()) }
+    unsafe { run_ticks(n, memory.as_ptr(), memory.len(), table.as_ptr(), table.len()) }
 }
 
 // ---- the same loop over the model
@@ -106,115 +97,6 @@ fn model_ticks(n: u64, memory: &[u16], table: &[u64]) -> u64 {
     }
     sum = fold(sum, u64::from(record.scalers[0]) | u64::from(record.scalers[1]) << 32);
     fold(sum, u64::from(record.csr) | u64::from(record.sync_count) << 32)
-}
-
-// ---- traffic
-
-struct Random(u64);
-
-impl Random {
-    fn next(&mut self) -> u64 {
-        self.0 ^= self.0 << 13;
-        self.0 ^= self.0 >> 7;
-        self.0 ^= self.0 << 17;
-        self.0.wrapping_mul(0x2545_F491_4F6C_DD1D) >> 16
-    }
-
-    fn chance(&mut self, of_1000: u64) -> bool {
-        self.next() % 1000 < of_1000
-    }
-}
-
-/// How often something comes in, in a thousand ticks.
-#[derive(Clone, Copy)]
-struct Traffic {
-    name: &'static str,
-    pulses: u64,
-    passes: u64,
-    fails: u64,
-    busy: u64,
-    /// Acknowledges that change from all high to all low or back.
-    turns: u64,
-    factor: u64,
-}
-
-const IDLE: Traffic =
-    Traffic { name: "idle-heavy", pulses: 5, passes: 300, fails: 20, busy: 10, turns: 300, factor: 1 };
-const BUSY: Traffic =
-    Traffic { name: "busy-heavy", pulses: 800, passes: 400, fails: 60, busy: 60, turns: 500, factor: 1 };
-
-fn memory() -> Vec<u16> {
-    let mut random = Random(0x1234_5678_9ABC_DEF1);
-    // Nine of ten words are OK, the classes by turns.
-    (0..MEMORY_WORDS as u64)
-        .map(|_| {
-            let any = random.next() as u16 & 0xFFF0;
-            if random.chance(100) {
-                any
-            } else {
-                any | [0x3, 0x5, 0x9][random.next() as usize % 3]
-            }
-        })
-        .collect()
-}
-
-/// The inputs with a record after them: these registers, every counter loaded, and all else 0.
-fn with_record(mut table: Vec<u64>, registers: [u64; 20]) -> Vec<u64> {
-    table.extend(registers);
-    table.extend(&registers[2..10]);
-    table
-}
-
-fn table(traffic: Traffic) -> Vec<u64> {
-    let mut random = Random(0xFEDC_BA98_7654_3211);
-    let mut high = false;
-    let table: Vec<u64> = (0..INPUTS)
-        .map(|_| {
-            let triggers = if random.chance(traffic.pulses) { random.next() & random.next() & 0xFFF } else { 0 };
-            let mut lines = 1;
-            for (bit, of) in
-                [(1, traffic.passes), (2, traffic.fails), (3, traffic.passes), (4, traffic.fails), (5, traffic.busy)]
-            {
-                lines |= u64::from(random.chance(of)) << bit;
-            }
-            high ^= random.chance(traffic.turns);
-            let acknowledges: u64 = if high { 0xFFFF_FFFF } else { 0 };
-            triggers | lines << 12 | acknowledges << 32
-        })
-        .collect();
-    // GO, sync enabled, T1, T4 and T5 in use; all inputs enabled; four small factors; one controller on each branch.
-    let registers = [
-        0x1D1,
-        0x1FFE,
-        traffic.factor,
-        traffic.factor,
-        0,
-        0,
-        traffic.factor,
-        traffic.factor,
-        0,
-        0,
-        0x0101_0101,
-        50,
-        6,
-        2,
-        3,
-        4,
-        2,
-        0,
-        0,
-        0x0E,
-    ];
-    with_record(table, registers)
-}
-
-/// Events in the first ticks, as many as words are to be held, and then nothing; no acknowledge comes.
-fn holding(words: usize) -> Vec<u64> {
-    let mut table = vec![0; INPUTS];
-    for event in 0..words {
-        table[event * 16] = 1;
-    }
-    with_record(table, [1, 0x1FFE, 0, 0, 0, 0, 0, 0, 0, 0, 0x0101_0101, 0, 0, 0, 0, 0, 0, 0, 0, 0])
 }
 
 // ---- measuring

@@ -1,0 +1,108 @@
+//! What the loop is fed: inputs of a table, a record to start with, and a memory.
+
+use reference::machine::MEMORY_WORDS;
+
+/// Inputs of the table; the registers 0–19 stand after them.
+pub const INPUTS: usize = 16_384;
+
+struct Random(u64);
+
+impl Random {
+    fn next(&mut self) -> u64 {
+        self.0 ^= self.0 << 13;
+        self.0 ^= self.0 >> 7;
+        self.0 ^= self.0 << 17;
+        self.0.wrapping_mul(0x2545_F491_4F6C_DD1D) >> 16
+    }
+
+    fn chance(&mut self, of_1000: u64) -> bool {
+        self.next() % 1000 < of_1000
+    }
+}
+
+/// How often something comes in, in a thousand ticks.
+#[derive(Clone, Copy)]
+pub struct Traffic {
+    pub name: &'static str,
+    pulses: u64,
+    passes: u64,
+    fails: u64,
+    busy: u64,
+    /// Acknowledges that change from all high to all low or back.
+    turns: u64,
+    factor: u64,
+}
+
+pub const IDLE: Traffic =
+    Traffic { name: "idle-heavy", pulses: 5, passes: 300, fails: 20, busy: 10, turns: 300, factor: 1 };
+pub const BUSY: Traffic =
+    Traffic { name: "busy-heavy", pulses: 800, passes: 400, fails: 60, busy: 60, turns: 500, factor: 1 };
+
+pub fn memory() -> Vec<u16> {
+    let mut random = Random(0x1234_5678_9ABC_DEF1);
+    // Nine of ten words are OK, the classes by turns.
+    (0..MEMORY_WORDS as u64)
+        .map(|_| {
+            let any = random.next() as u16 & 0xFFF0;
+            if random.chance(100) {
+                any
+            } else {
+                any | [0x3, 0x5, 0x9][random.next() as usize % 3]
+            }
+        })
+        .collect()
+}
+
+pub fn table(traffic: Traffic) -> Vec<u64> {
+    let mut random = Random(0xFEDC_BA98_7654_3211);
+    let mut high = false;
+    let mut table: Vec<u64> = (0..INPUTS)
+        .map(|_| {
+            let triggers = if random.chance(traffic.pulses) { random.next() & random.next() & 0xFFF } else { 0 };
+            let mut lines = 1;
+            for (bit, of) in
+                [(1, traffic.passes), (2, traffic.fails), (3, traffic.passes), (4, traffic.fails), (5, traffic.busy)]
+            {
+                lines |= u64::from(random.chance(of)) << bit;
+            }
+            high ^= random.chance(traffic.turns);
+            let acknowledges: u64 = if high { 0xFFFF_FFFF } else { 0 };
+            triggers | lines << 12 | acknowledges << 32
+        })
+        .collect();
+    // GO, sync enabled, T1, T4 and T5 in use; all inputs enabled; four small factors; one controller on each branch.
+    let registers = [
+        0x1D1,
+        0x1FFE,
+        traffic.factor,
+        traffic.factor,
+        0,
+        0,
+        traffic.factor,
+        traffic.factor,
+        0,
+        0,
+        0x0101_0101,
+        50,
+        6,
+        2,
+        3,
+        4,
+        2,
+        0,
+        0,
+        0x0E,
+    ];
+    table.extend(registers);
+    table
+}
+
+/// Events in the first ticks, as many as words are to be held, and then nothing; no acknowledge comes.
+pub fn holding(words: usize) -> Vec<u64> {
+    let mut table = vec![0; INPUTS];
+    for event in 0..words {
+        table[event * 16] = 1;
+    }
+    table.extend([1, 0x1FFE, 0, 0, 0, 0, 0, 0, 0, 0, 0x0101_0101, 0, 0, 0, 0, 0, 0, 0, 0, 0]);
+    table
+}
