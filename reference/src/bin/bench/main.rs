@@ -180,9 +180,14 @@ fn count(side: &str, traffic: &str, ticks: u64) -> ExitCode {
 
 fn main() -> ExitCode {
     let words: Vec<String> = std::env::args().skip(1).collect();
-    match words.first().map(String::as_str) {
-        Some("count") if words.len() == 4 => count(&words[1], &words[2], words[3].parse().unwrap_or(0)),
-        Some(word) => times(word.parse().unwrap_or(RUNS)),
-        None => times(RUNS),
+    let words: Vec<&str> = words.iter().map(String::as_str).collect();
+    match (words.as_slice(), words.last().map(|word| word.parse())) {
+        (["count", side, traffic, _], Some(Ok(ticks))) => count(side, traffic, ticks),
+        ([], _) => times(RUNS),
+        ([_], Some(Ok(runs @ 1..))) => times(runs as usize),
+        _ => {
+            eprintln!("a number of runs was expected; reference/bench --help says how it is called");
+            ExitCode::from(2)
+        }
     }
 }

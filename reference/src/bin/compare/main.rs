@@ -26,6 +26,7 @@ use std::process::ExitCode;
 
 const DEFAULT_SEED: u64 = 1;
 const DEFAULT_CALLS: u64 = 20_000_000;
+const DEFAULT_SCRIPTS: u64 = 300;
 
 /// A list as it was run, and where the machines differ after its last step.
 struct Difference {
@@ -224,21 +225,33 @@ fn find_faults(seed: u64, calls: u64) -> ExitCode {
     }
 }
 
-fn number(word: Option<&String>, otherwise: u64) -> u64 {
-    word.map_or(otherwise, |word| word.parse().unwrap_or_else(|_| panic!("{word}: a number was expected")))
+/// The words after the first `from`: a seed and a count, or the defaults.
+fn numbers(words: &[String], from: usize, count: u64) -> Result<(u64, u64), String> {
+    let number = |at: usize, otherwise: u64| match words.get(at) {
+        None => Ok(otherwise),
+        Some(word) => word.parse().map_err(|_| format!("{word}: a number was expected")),
+    };
+    match words.get(from + 2) {
+        Some(word) => Err(format!("{word}: one word too many")),
+        None => Ok((number(from, DEFAULT_SEED)?, number(from + 1, count)?)),
+    }
+}
+
+fn run(words: &[String]) -> Result<ExitCode, String> {
+    match words.first().map(String::as_str) {
+        Some("--faults") => numbers(words, 1, DEFAULT_CALLS).map(|(seed, calls)| find_faults(seed, calls)),
+        Some("--scripts") => {
+            let program = words.get(1).ok_or("--scripts: a program was expected")?;
+            numbers(words, 2, DEFAULT_SCRIPTS).map(|(seed, count)| scripts::compare(program, seed, count))
+        }
+        _ => numbers(words, 0, DEFAULT_CALLS).map(|(seed, calls)| compare(seed, calls)),
+    }
 }
 
 fn main() -> ExitCode {
     let words: Vec<String> = std::env::args().skip(1).collect();
-    match words.first().map(String::as_str) {
-        Some("--faults") => find_faults(number(words.get(1), DEFAULT_SEED), number(words.get(2), DEFAULT_CALLS)),
-        Some("--scripts") => match words.get(1) {
-            Some(program) => scripts::compare(program, number(words.get(2), DEFAULT_SEED), number(words.get(3), 300)),
-            None => {
-                eprintln!("usage: compare --scripts PROGRAM [SEED COUNT]");
-                ExitCode::FAILURE
-            }
-        },
-        _ => compare(number(words.first(), DEFAULT_SEED), number(words.get(1), DEFAULT_CALLS)),
-    }
+    run(&words).unwrap_or_else(|says| {
+        eprintln!("{says}; reference/compare --help says how it is called");
+        ExitCode::from(2)
+    })
 }
