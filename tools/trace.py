@@ -1,87 +1,31 @@
 #!/usr/bin/env python3
-"""trace.py [--check]: docs/TRACE.md from the tags in the files: for each sentence of document 01 that rules the machine,
-the account or the console, the definition that states it, the code that does it, the laws about it and the must-fail edits
-that break it. docs/tags.txt has the tags, each with the sentence in our words and, where no edit can break it, why.
-Refused: a tag that is not there; a ruling sentence that no definition cites; one with neither an edit nor a reason. With
---check nothing is written: the file must be what would be written. Run it in the repository's folder."""
-import glob, os, re, sys
+"""Makes docs/TRACE.md from the tags in the files: for each sentence of document 01 that rules the machine, the account or
+the console, the definition that states it, the code that does it, the laws about it and the must-fail edits that break it.
 
-table = [l.rstrip('\n').split('\t') for l in open('docs/tags.txt') if l.strip()]
-tags = [l[0] for l in table]
-words = {l[0]: l[1] if len(l) > 1 else '' for l in table}
-reason = {l[0]: l[2] if len(l) > 2 else '' for l in table}
-examples = [t for t in tags if t.startswith('Bench') or t in ('Console.9', 'Console.10') or (t.startswith('Lab') and words[t])]
-ruling = [t for t in tags if words[t] and t not in examples]
-TAG = re.compile(r'\[([A-Z][A-Za-z]+\.\d+[a-z]?)\](?:–\[([A-Z][A-Za-z]+\.\d+[a-z]?)\])?')
-faults = []
+    tools/trace.py           rewrites docs/TRACE.md
+    tools/trace.py --check   exits 1 if docs/TRACE.md is not what the files say
 
+docs/tags.txt has the tags, each with the sentence in our words and, where no edit can break it, why. Refused, with or
+without --check: a tag, or a row of docs/DECISIONS.md, that is not there; a ruling sentence that no definition cites; one with
+neither an edit nor a reason.
 
-def tags_in(text, where):
-    out = []
-    for m in TAG.finditer(text):
-        a, b = m.group(1), m.group(2)
-        named = [a] if b is None else tags[tags.index(a):tags.index(b) + 1] if a in tags and b in tags else [a, b]
-        for t in named:
-            full = [x for x in tags if x == t or re.sub(r'[a-z]$', '', x) == t]
-            if not full:
-                faults.append('%s: no such sentence: [%s]' % (where, t))
-            out += full
-    return out
+A tag stands in a comment and speaks of the declaration under it, and of those of the same type that follow it without a
+comment of their own.
+"""
+import re
+import sys
 
+from page import TOP, asks_check, keep, read
 
-NAME = re.compile(r'^\s*(?:(?:abbrev|unfoldable)\s+)?(?:pub\s+)?(?:(?:record|data)\s+)?([A-Za-z0-9_\'·-]+)\s*(?::|\(|\{)')
-ITEM = re.compile(r'^\s*(?:pub\s+)?(?:const|fn|struct|enum|extern "C" fn)\s+([A-Za-z0-9_]+)')
+TAG = re.compile(r"\[([A-Z][A-Za-z]+\.\d+[a-z]?)\](?:–\[([A-Z][A-Za-z]+\.\d+[a-z]?)\])?")
+ROW = re.compile(r"\[Open: (\w+)\]|DECISIONS ([A-Z]\d+)")
+# a declaration of specs/ or proofs/ and of src/: the name, then the type
+ANTT = re.compile(r"\s*(?:(?:abbrev|unfoldable)\s+)?(?:pub\s+)?(?:(?:record|data)\s+)?([\w'·-]+)\s*($|[:({].*)")
+RATTLE = re.compile(r'\s*(?:pub\s+)?(?:const|fn|struct|enum|extern "C" fn)\s+(\w+)([^=]*).*')
+# what stands between a comment and its declaration, and what ends a file's head
+MODIFIERS, IMPORTS = ("unfolding", "module", "#["), ("use ", "ghost use ", "mod ", "pub mod ")
 
-
-def cited(files, mark, name):
-    """(tag, link) of each comment that cites a tag, to the name declared next after it"""
-    for f in files:
-        lines = open(f).read().split('\n')
-        for i, l in enumerate(lines):
-            s = l.strip()
-            if not s.startswith(mark) or not TAG.search(s):
-                continue
-            for j in range(i + 1, min(i + 14, len(lines))):
-                t = lines[j].strip()
-                if not t or t.startswith((mark, 'unfolding', 'module', '#[')):
-                    continue
-                m = name.match(lines[j])
-                if m:
-                    for tag in tags_in(s, f):
-                        yield tag, '[%s](../%s)' % (m.group(1), f)
-                break
-
-
-found = {kind: {t: [] for t in tags} for kind in ('definition', 'code', 'law', 'edit')}
-
-
-def files(pattern, but=None):
-    """the examples' own words after the machine's"""
-    named = [f for f in glob.glob(pattern, recursive=True) if but is None or not f.startswith(but)]
-    return sorted(named, key=lambda f: (f.startswith('crates/bench/'), f))
-
-
-# a claim restates a law
-for kind, named, mark, name in (('definition', files('crates/*/specs/*.antt', but='crates/claims/'), '--', NAME),
-                                ('code', files('crates/*/src/**/*.rt'), '//', ITEM),
-                                ('law', files('crates/claims/specs/*.antt') + files('crates/*/proofs/*.antt'), '--', NAME)):
-    for tag, link in cited(named, mark, name):
-        found[kind][tag].append(link)
-for f in sorted(glob.glob('crates/*/must-fail/*.edit')):
-    for tag in tags_in(open(f).readline(), f):
-        found['edit'][tag].append('[%s](../%s)' % (os.path.basename(f)[:-5], f))
-for f in sorted(glob.glob('docs/*.md')):
-    if not f.endswith('TRACE.md'):
-        tags_in(open(f).read(), f)
-
-
-def cell(kind, t, most):
-    links = list(dict.fromkeys(found[kind][t]))
-    more = ' and %d more' % (len(links) - most) if len(links) > most else ''
-    return ', '.join(links[:most]) + more
-
-
-text = '''# From document 01 to the definitions, and back
+HEAD = """# From document 01 to the definitions, and back
 
 A row for each sentence of document 01 that rules the machine, the account or the console, by its tag. From left to right:
 what it says, in our words; the definition that states it, which is what a buyer believes; the code that does it, whose
@@ -93,31 +37,146 @@ row that is no longer true, a tag that does not exist, and a sentence without a 
 
 | Sentence | In our words | Definition | Code | Laws | Must-fail edits |
 |---|---|---|---|---|---|
-'''
-for t in ruling:
-    edits = cell('edit', t, 4) or 'none: ' + reason[t]
-    text += '| %s | %s | %s | %s | %s | %s |\n' % (
-        t, words[t], cell('definition', t, 5), cell('code', t, 4), cell('law', t, 4), edits)
-    if not found['definition'][t]:
-        faults.append('no definition cites [%s]' % t)
-    if not found['edit'][t] and not reason[t]:
-        faults.append('no edit breaks [%s], and docs/tags.txt does not say why' % t)
-text += '''
+"""
+EXAMPLES = """
 ## Examples, misreadings and impostors
 
 | Sentence | In our words | Stated in | Must-fail edits |
 |---|---|---|---|
-'''
-for t in examples:
-    where = cell('definition', t, 3) or cell('law', t, 3)
-    text += '| %s | %s | %s | %s |\n' % (t, words[t], where, cell('edit', t, 4))
-for x in faults:
-    print(x)
-print('%d sentences, %d faults' % (len(ruling), len(faults)))
-if '--check' in sys.argv:
-    same = os.path.exists('docs/TRACE.md') and open('docs/TRACE.md').read() == text
-    if not same:
-        print('docs/TRACE.md is not what the files say: run tools/trace.py')
-    sys.exit(1 if faults or not same else 0)
-open('docs/TRACE.md', 'w').write(text)
-sys.exit(1 if faults else 0)
+"""
+
+
+class Sentences:
+    """docs/tags.txt: the tags in document 01's order, with our words and the reason why there is no edit."""
+
+    def __init__(self):
+        rows = [line.split("\t") for line in read(TOP / "docs" / "tags.txt").splitlines() if line.strip()]
+        self.tags = [row[0] for row in rows]
+        self.words = {row[0]: row[1] if len(row) > 1 else "" for row in rows}
+        self.reason = {row[0]: row[2] if len(row) > 2 else "" for row in rows}
+        self.decisions = set(re.findall(r"(?m)^\| ([A-Z]\d+) \|", read(TOP / "docs" / "DECISIONS.md")))
+        self.faults = []
+
+    def is_example(self, tag):
+        return tag.startswith("Bench") or tag in ("Console.9", "Console.10") or tag.startswith("Lab") and self.words[tag] != ""
+
+    def cited(self, text, where):
+        """The tags that a text cites, a range and the parts of a sentence written out."""
+        found = []
+        for first, last in TAG.findall(text):
+            ends = [first, last or first]
+            known = all(tag in self.tags for tag in ends)
+            named = self.tags[self.tags.index(ends[0]) : self.tags.index(ends[1]) + 1] if known else ends[: 2 if last else 1]
+            for tag in named:
+                full = [known for known in self.tags if known == tag or re.sub(r"[a-z]$", "", known) == tag]
+                if not full:
+                    self.faults.append(f"{where}: no such sentence: [{tag}]")
+                found += full
+        return found
+
+    def see_rows(self, text, where):
+        for groups in ROW.findall(text):
+            if "".join(groups) not in self.decisions:
+                self.faults.append(f"{where}: no such row of docs/DECISIONS.md: {''.join(groups)}")
+
+
+def declarations(lines, mark, pattern):
+    """(comment, names) of the declarations that a comment with a tag speaks of."""
+    comment, names, kind = "", None, None
+    for line in lines + [mark]:
+        text = line.strip()
+        if text.startswith((mark,) + IMPORTS):
+            if names and TAG.search(comment):
+                yield comment, names
+            goes_on = names is not None and not names and text.startswith(mark)
+            comment, names, kind = (comment + "\n" if goes_on else "") + text, [], None
+            if not text.startswith(mark):
+                names = None
+        elif text and not text.startswith(MODIFIERS) and names is not None:
+            found = pattern.fullmatch(line) if pattern is RATTLE or " = " not in text else None
+            type_ = found.group(2).strip() if found else ""
+            if found and (not names or type_ == kind):
+                names.append(found.group(1))
+                # a type that goes on in the next line is like no other
+                kind = None if type_ in ("", ":", "(") else type_
+            elif found or not names:
+                if names and TAG.search(comment):
+                    yield comment, names
+                names = None
+
+
+def link(names, where):
+    """One link for the declarations under one comment."""
+    shown = names[0] if len(names) == 1 else f"{names[0]}{', ' if len(names) == 2 else ' … '}{names[-1]}"
+    return f"[{shown}](../{where})"
+
+
+def gather(sentences):
+    """For each kind of place and each tag, links to the names there."""
+    found = {kind: {tag: [] for tag in sentences.tags} for kind in ("definition", "code", "law", "example", "edit")}
+    # a claim restates a law; what bench defines serves its examples alone
+    places = (
+        ("definition", "crates/*/specs/*.antt", ("claims", "bench"), "--", ANTT),
+        ("code", "crates/*/src/**/*.rt", (), "//", RATTLE),
+        ("law", "crates/claims/specs/*.antt", (), "--", ANTT),
+        ("law", "crates/*/proofs/*.antt", ("bench",), "--", ANTT),
+        ("example", "crates/bench/specs/*.antt", (), "--", ANTT),
+        ("example", "crates/bench/proofs/*.antt", (), "--", ANTT),
+    )
+    for kind, pattern, but, mark, name in places:
+        for path in sorted(TOP.glob(pattern)):
+            where = path.relative_to(TOP)
+            if where.parts[1] in but:
+                continue
+            text = read(path)
+            sentences.cited(text, where)
+            sentences.see_rows(text, where)
+            for comment, names in declarations(text.splitlines(), mark, name):
+                for tag in sentences.cited(comment, where):
+                    found[kind][tag].append(link(names, where))
+    for path in sorted(TOP.glob("crates/*/must-fail/*.edit")):
+        where = path.relative_to(TOP)
+        for tag in sentences.cited(read(path).splitlines()[0], where):
+            found["edit"][tag].append(f"[{path.stem}](../{where})")
+    for path in sorted(TOP.glob("docs/*.md")) + sorted(TOP.glob("reference/src/**/*.rs")):
+        if path.name != "TRACE.md":
+            sentences.cited(read(path), path.relative_to(TOP))
+            sentences.see_rows(read(path), path.relative_to(TOP))
+    return found
+
+
+def cell(links, most):
+    links = list(dict.fromkeys(links))
+    return ", ".join(links[:most]) + (f" and {len(links) - most} more" if len(links) > most else "")
+
+
+def page(sentences, found):
+    text = HEAD
+    for tag in sentences.tags:
+        if not sentences.words[tag] or sentences.is_example(tag):
+            continue
+        edits = cell(found["edit"][tag], 4) or "none: " + sentences.reason[tag]
+        definition, code, law = (cell(found[kind][tag], most) for kind, most in (("definition", 5), ("code", 4), ("law", 4)))
+        text += f"| {tag} | {sentences.words[tag]} | {definition} | {code} | {law} | {edits} |\n"
+        if not definition:
+            sentences.faults.append(f"no definition cites [{tag}]")
+        if not found["edit"][tag] and not sentences.reason[tag]:
+            sentences.faults.append(f"no edit breaks [{tag}], and docs/tags.txt does not say why")
+    text += EXAMPLES
+    for tag in filter(sentences.is_example, sentences.tags):
+        where = cell(found["example"][tag] or found["definition"][tag] + found["law"][tag], 3)
+        text += f"| {tag} | {sentences.words[tag]} | {where} | {cell(found['edit'][tag], 4)} |\n"
+    return text
+
+
+def main():
+    check = asks_check(__doc__)
+    sentences = Sentences()
+    text = page(sentences, gather(sentences))
+    for fault in dict.fromkeys(sentences.faults):
+        print(fault)
+    return max(keep(TOP / "docs" / "TRACE.md", text, check), 1 if sentences.faults else 0)
+
+
+if __name__ == "__main__":
+    sys.exit(main())

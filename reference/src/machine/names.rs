@@ -64,7 +64,7 @@ pub mod control {
     pub const OPEN_PRESCALES: u32 = 1 << 15;
     /// Bits 1–12 enable inputs 1–12; shifted down by one they lie as the trigger bits do.
     pub const ENABLE_SHIFT: u32 = 1;
-    /// Bits 13, 14 and all above 15 lie outside the register. [Open: Calls]
+    /// Bits 13, 14 and all above 15 lie outside the register. [Open: R2]
     pub const BITS: u32 = 0x0000_9FFF;
 
     /// The pulses that count: input enabled and, in strobe mode, strobe high. [Pulses.1]

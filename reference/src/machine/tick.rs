@@ -124,7 +124,7 @@ impl Supervisor {
         let counts = match self.assign {
             0x00 => passed != 0,
             code @ 0x01..=0x0C => (passed >> (code - 1)) & 1 != 0,
-            0x0D => (rejected | accepted) != 0, // ready, with at least one passed [Open: The tick]
+            0x0D => (rejected | accepted) != 0, // ready, with at least one passed [Open: C1]
             0x0E => accepted != 0,
             0x0F => rejected != 0,
             0x10..=0x1F => failed_2,

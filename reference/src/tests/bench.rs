@@ -45,7 +45,7 @@ fn p4_word_without_class_or_without_ok_rejects() {
         let before = unit.record.clone();
         let answer = unit.tick(1, 0, 0);
         assert_eq!((answer.rejected, answer.accepted, answer.lines), (1, 0, 0));
-        // Nothing but scaler 1 (assigned to any pulse passed) moves. [Open: The tick]
+        // Nothing but scaler 1 (assigned to any pulse passed) moves. [Open: T2]
         assert_eq!(unit.record, Supervisor { scalers: [0, 1], ..before });
     }
 }

@@ -13,7 +13,7 @@ fn load(unit: &mut Unit) {
 fn with_none_enabled_both_tests_are_true() {
     let mut unit = Unit::running(class_1(5, 1), &[], csr::GO);
     load(&mut unit);
-    // Acknowledges of controllers that are not enabled do not matter. [Branches.4] [Open: The tick]
+    // Acknowledges of controllers that are not enabled do not matter. [Branches.4] [Open: B3]
     assert_eq!(unit.tick(0, 0, u32::MAX).shown, [Some(5); 4]);
     let answer = unit.tick(0, 0, 0);
     assert_eq!((answer.finished, answer.shown), ([Some(5); 4], NONE)); // [Branches.2]
@@ -85,7 +85,7 @@ fn the_word_is_shown_as_long_as_the_branch_strobes() {
     let mut unit = Unit::running(class_1(5, 1), &[(Supervisor::ROC_ENABLE, 0x0101_0101)], csr::GO);
     load(&mut unit);
     for _ in 0..5 {
-        assert_eq!(unit.quiet().shown, [Some(5); 4]); // [Open: The tick]
+        assert_eq!(unit.quiet().shown, [Some(5); 4]); // [Open: B1]
     }
     let answer = unit.tick(0, 0, 0x0001_0001);
     assert_eq!(answer.finished, [Some(5), None, Some(5), None]);

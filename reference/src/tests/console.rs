@@ -43,12 +43,12 @@ fn the_printed_script() {
 
 #[test]
 fn empty_input() {
-    assert_eq!(printed(b""), "no 6\n"); // [Open: Console]
+    assert_eq!(printed(b""), "no 6\n"); // [Open: K2]
 }
 
 #[test]
 fn first_line_alone() {
-    assert_eq!(printed(b"supervisor\t1"), ""); // [Open: Console]
+    assert_eq!(printed(b"supervisor\t1"), ""); // [Open: K2]
     assert_eq!(printed(b"supervisor\t1\n"), "");
 }
 
@@ -78,7 +78,7 @@ fn bad_first_lines_print_only_no_6() {
 
 #[test]
 fn empty_lines() {
-    assert_eq!(run("\n"), "no 6\n"); // [Open: Console]
+    assert_eq!(run("\n"), "no 6\n"); // [Open: K1]
     assert_eq!(run("\n\n"), "no 6\nno 6\n");
     assert_eq!(run("R 00\n\nR 00\n"), "00000000\nno 6\n00000000\n");
     assert_eq!(run("R 00\n\n"), "00000000\nno 6\n");
@@ -197,7 +197,7 @@ fn longest_script() {
         assert_eq!(script.len(), length);
         assert_eq!(printed(&script), expected); // [Console.1]
     }
-    // One byte more, even if it is only the last newline. [Console.6] [Open: Console]
+    // One byte more, even if it is only the last newline. [Console.6] [Open: K3]
     let (script, _) = long_script(65_537);
     assert_eq!(printed(&script), "no 6\n");
     let (mut script, _) = long_script(65_536);
@@ -215,7 +215,7 @@ fn values_in_capitals() {
 
 #[test]
 fn declines_in_decimal() {
-    assert_eq!(run("W 14 00000000\nR 14\nW FF 00000000\nR FF\n"), "no 3\nno 3\nno 3\nno 3\n"); // [Open: Console]
+    assert_eq!(run("W 14 00000000\nR 14\nW FF 00000000\nR FF\n"), "no 3\nno 3\nno 3\nno 3\n"); // [Open: K4]
     assert_eq!(run("T 000 80 00000000\nT 000 FF 00000000\n"), "no 5\nno 5\n");
     assert_eq!(run("W 09 00004000\nW 09 00003FFF\nR 09\n"), "no 5\nok\n00003FFF\n"); // [Bench.9]
     assert_eq!(
@@ -226,7 +226,7 @@ fn declines_in_decimal() {
 
 #[test]
 fn outcomes() {
-    // A tag prints its word. [Open: Console] [Console.7]
+    // A tag prints its word. [Open: T6] [Console.7]
     assert_eq!(run("W 00 00000018\nT 000 00 00000000\n"), "ok\n000 000 000 000 000 0000 g10 - - - - - - - -\n");
     // A cleared event. [Main.6]
     assert_eq!(

@@ -54,7 +54,7 @@ fn go_rising_clears_the_status_bits() {
 
 #[test]
 fn go_set_and_cleared_in_one_write_is_no_rise() {
-    expect(0x001F_0000, 0x0001_0001, 0x001F_0000); // [Open: Calls]
+    expect(0x001F_0000, 0x0001_0001, 0x001F_0000); // [Open: R1]
     expect(0x001F_0001, 0x0001_0001, 0x001F_0000);
 }
 
@@ -67,14 +67,14 @@ fn bit_31_clears_the_status_bits() {
 
 #[test]
 fn reset_clears_bits_0_to_3_and_keeps_the_rest() {
-    expect(0x001F_0FFF, csr::RESET, 0x001F_0FF0); // [CSRWrite.2d] [Open: Calls]
+    expect(0x001F_0FFF, csr::RESET, 0x001F_0FF0); // [CSRWrite.2d] [Open: R5]
     expect(0, csr::RESET | 0x0FFF, 0x0000_0FF0);
     expect(0x001F_0FFF, csr::RESET | csr::CLEAR_STATUS | 0x0FF0_0000, 0);
 }
 
 #[test]
 fn go_with_reset_rises_first() {
-    expect(0x001F_0000, csr::RESET | csr::GO, 0); // [Open: Calls]
+    expect(0x001F_0000, csr::RESET | csr::GO, 0); // [Open: R1]
     expect(0x001F_0001, csr::RESET | csr::GO, 0x001F_0000);
     expect(0x001F_0000, csr::RESET | csr::GO | csr::GO << 16, 0x001F_0000);
 }
@@ -163,7 +163,7 @@ fn initialize_does_not_save_a_bad_value() {
         let mut unit = busy();
         let before = unit.record.clone();
         let value = csr::INITIALIZE | 1 << bit;
-        assert_eq!(unit.record.write_register(Supervisor::CSR, value), Err(5)); // [Open: Calls]
+        assert_eq!(unit.record.write_register(Supervisor::CSR, value), Err(5)); // [Open: R2]
         assert_eq!(unit.record, before);
     }
 }

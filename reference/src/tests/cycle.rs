@@ -27,7 +27,7 @@ fn delay_raises_level_3_first_if_t3_is_shorter() {
 fn delay_ignores_passes_and_fails() {
     let mut unit = Unit::running(class_1(5, 1), &[(Supervisor::T2, 50)], csr::GO);
     unit.accept();
-    let answer = unit.tick(0, 0x1E, 0); // [Open: The tick]
+    let answer = unit.tick(0, 0x1E, 0); // [Open: M2]
     assert_eq!((answer.lines, answer.outcome), (0x0111, Outcome::Nothing));
     assert_eq!(unit.record.main, MainState::Delay);
 }
@@ -65,7 +65,7 @@ fn class_3_goes_through_both_waits() {
 fn each_wait_reads_its_own_lines() {
     let mut unit = Unit::running(class_3(7, 0), &[], csr::GO);
     unit.accept();
-    unit.tick(0, line::LEVEL_3_PASS | line::LEVEL_3_FAIL, 0); // [Open: The tick]
+    unit.tick(0, line::LEVEL_3_PASS | line::LEVEL_3_FAIL, 0); // [Open: M2]
     assert_eq!(unit.record.main, MainState::Wait2);
     unit.tick(0, line::LEVEL_2_PASS | line::LEVEL_3_PASS | line::LEVEL_3_FAIL, 0);
     assert_eq!(unit.record.main, MainState::Wait3);
@@ -77,7 +77,7 @@ fn each_wait_reads_its_own_lines() {
 fn the_accepting_tick_ignores_pass_and_fail() {
     for lines in [line::LEVEL_2_PASS, line::LEVEL_2_FAIL] {
         let mut unit = Unit::running(class_2(7, 0), &[], csr::GO);
-        let answer = unit.tick(1, lines, 0); // [Open: The tick]
+        let answer = unit.tick(1, lines, 0); // [Open: M1]
         assert_eq!((answer.accepted, answer.outcome), (1, Outcome::Nothing));
         assert_eq!((unit.record.main, unit.record.age), (MainState::Wait2, 0));
     }
@@ -90,7 +90,7 @@ fn fail_beats_pass_in_wait_3_too() {
     unit.tick(0, line::LEVEL_2_PASS, 0);
     let answer = unit.tick(0, line::LEVEL_3_PASS | line::LEVEL_3_FAIL, 0); // [Main.6]
     assert_eq!(answer.outcome, Outcome::Cleared);
-    // Entering Clear drops no line and raises the clear line. [Open: The tick]
+    // Entering Clear drops no line and raises the clear line. [Open: M4]
     assert_eq!(answer.lines, 0x002F);
 }
 
@@ -100,7 +100,7 @@ fn late_fail_in_wait_2() {
     unit.accept();
     unit.quiet();
     let answer = unit.tick(0, line::LEVEL_2_PASS | line::LEVEL_2_FAIL, 0);
-    // No accept line, no outcome yet. [Main.6] [Open: The tick]
+    // No accept line, no outcome yet. [Main.6] [Open: M3]
     assert_eq!((answer.outcome, answer.lines), (Outcome::Nothing, 0x0003));
     assert!(unit.record.late && unit.has(csr::LATE_FAIL));
     assert_eq!(unit.record.main, MainState::Front);

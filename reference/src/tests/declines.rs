@@ -76,7 +76,7 @@ fn register_write_1() {
         assert_eq!(record.write_register(number, u32::MAX), Err(1)); // [Declines.2a]
         assert_eq!(record, spoiled());
     }
-    // INITIALIZE too; only fresh gives a new one. [Open: Calls]
+    // INITIALIZE too; only fresh gives a new one. [Open: A3]
     assert_eq!(spoiled().write_register(0, csr::INITIALIZE), Err(1));
 }
 
@@ -86,7 +86,7 @@ fn register_write_3() {
         assert_eq!(takes(number, 0), Err(3)); // [Declines.2b]
         assert_eq!(takes(number, u32::MAX), Err(3), "before 5");
         let mut record = active();
-        assert_eq!(record.write_register(number, 0), Err(3), "before 4"); // [Open: Calls]
+        assert_eq!(record.write_register(number, 0), Err(3), "before 4"); // [Open: A1]
         assert_eq!(record, active());
     }
 }
@@ -140,7 +140,7 @@ fn register_write_5_while_active() {
     let mut record = active();
     assert_eq!(record.write_register(Supervisor::CSR, 1 << 12), Err(5));
     assert_eq!(record.write_register(Supervisor::ASSIGN, 0x40), Err(5));
-    assert_eq!(record, active(), "5 sets no status bit"); // [Open: Calls]
+    assert_eq!(record, active(), "5 sets no status bit"); // [Open: A1]
 }
 
 #[test]

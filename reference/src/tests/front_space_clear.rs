@@ -110,7 +110,7 @@ fn clear_leaves_by_the_front_test() {
         unit.quiet();
         left_after += 1;
     }
-    // The accept is tick 1; the tick with risen age 10 is the eleventh. [Main.15] [Open: The tick]
+    // The accept is tick 1; the tick with risen age 10 is the eleventh. [Main.15] [Open: M6]
     assert_eq!(left_after, 11);
 
     let mut busy = Unit::running(class_2(5, 3), &[], csr::GO);
@@ -154,7 +154,7 @@ fn space_sees_a_removed_word_one_tick_later() {
     unit.quiet_ticks(5);
     assert_eq!((unit.record.main, unit.used()), (MainState::Space, [1, 0, 0, 0]));
     assert_eq!(unit.tick(0, 0, 1).finished[0], Some(5));
-    assert_eq!((unit.record.main, unit.used()), (MainState::Space, [0; 4])); // [Tick.2] [Open: The tick]
+    assert_eq!((unit.record.main, unit.used()), (MainState::Space, [0; 4])); // [Tick.2] [Open: T1]
     unit.tick(0, 0, 1);
     assert_eq!(unit.record.main, MainState::Idle);
 }
@@ -197,7 +197,7 @@ fn a_roc_lock_set_or_cleared_in_space_acts_from_the_next_tick() {
 
 #[test]
 fn a_cycle_in_class_0_is_decided_by_the_same_sentences() {
-    // Not spoiled, though no list of calls gets there. [Open: Calls]
+    // Not spoiled, though no list of calls gets there. [Open: A5]
     for main in
         [MainState::Delay, MainState::Wait3, MainState::Front, MainState::Space, MainState::SyncHold, MainState::Clear]
     {

@@ -156,7 +156,7 @@ fn every_condition_of_ready() {
 
 #[test]
 fn ready_has_no_depth_test() {
-    // A word is held and bit 9 makes the depth 1, but main is Idle again. [Open: The tick]
+    // A word is held and bit 9 makes the depth 1, but main is Idle again. [Open: T4]
     let mut unit = Unit::running(class_1(5, 1), &[(Supervisor::ROC_ENABLE, 1)], csr::GO);
     unit.accept();
     unit.run_to_idle();
@@ -188,7 +188,7 @@ fn inhibit_sets_status_16_always() {
 #[test]
 fn an_accept_touches_nothing_else() {
     // Idle with a stale late mark, raised lines and c: no list of calls gets there, but it is not spoiled.
-    // [Open: Calls] [Open: The tick]
+    // [Open: A5] [Open: M1]
     let mut unit = Unit::running(class_1(5, 0x81), &[], csr::GO);
     unit.record.late = true;
     unit.record.level_3_start = true;

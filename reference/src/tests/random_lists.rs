@@ -133,7 +133,7 @@ impl List {
             self.met.others.insert("queue full");
         }
         if let Some(number) = declined {
-            // [Declines.1b] [Open: Calls]
+            // [Declines.1b] [Open: A1]
             let csr = if number == 4 { before.csr | error } else { before.csr };
             assert_eq!(self.record, Supervisor { csr, ..before });
         }

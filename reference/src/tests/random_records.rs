@@ -60,7 +60,7 @@ fn random_record(random: &mut Random) -> Supervisor {
 
 #[test]
 fn any_record_that_is_not_spoiled_stays_so() {
-    // [Open: Calls], reachable or not; and the quick tick agrees with the slow one.
+    // [Open: A5], reachable or not; and the quick tick agrees with the slow one.
     let mut random = Random(0x0123_4567_89AB_CDEF);
     let mut memory = vec![0u16; MEMORY_WORDS];
     for _ in 0..60_000 {

@@ -19,7 +19,7 @@ const EACH_GROUP: [u32; 9] = [0x00, 0x0C, 0x0D, 0x0E, 0x0F, 0x10, 0x20, 0x30, 0x
 
 #[test]
 fn passed_pulses_lost_ones_too() {
-    // Pulses on inputs 1 and 2, factor 1 on input 1, GO clear with prescales open: lost. [Open: The tick]
+    // Pulses on inputs 1 and 2, factor 1 on input 1, GO clear with prescales open: lost. [Open: C1]
     let codes: Vec<u32> = (0x00..=0x0F).collect();
     let counted = counts(0, &[(Supervisor::CONTROL, 0x9FFE), (Supervisor::FACTOR_1, 1)], 0, &codes, |unit| {
         for _ in 0..4 {
@@ -196,7 +196,7 @@ fn scaler_0_counts_loaded_events() {
 fn any_write_zeroes_a_scaler() {
     let mut unit = Unit::running(0, &[], csr::GO);
     unit.record.scalers = [7, 8];
-    unit.write(Supervisor::SCALER_0, 0xFFFF_FFFF); // taken while active [Registers.3] [Open: Calls]
+    unit.write(Supervisor::SCALER_0, 0xFFFF_FFFF); // taken while active [Registers.3] [Open: A1]
     assert_eq!(unit.record.scalers, [0, 8]);
     unit.write(Supervisor::SCALER_1, 5);
     assert_eq!(unit.record.scalers, [0, 0]);

@@ -252,7 +252,7 @@ fn a_cycle_while_a_user_sync_waits() {
 
 #[test]
 fn what_no_clause_names_does_not_spoil() {
-    // Idle with a stale late mark, raised lines, c, age, class and pattern. [Open: Calls]
+    // Idle with a stale late mark, raised lines, c, age, class and pattern. [Open: A5]
     leaves(|r| {
         r.late = true;
         r.level_1_ok = true;

@@ -22,7 +22,7 @@ fn every_third_event_has_sync() {
     }
     assert_eq!(words, [5, 5, 0x15, 5, 5, 0x15, 5]); // [Main.10]
 
-    // The count keeps its value at the load with sync and is zeroed when Sync hold ends. [Main.14] [Open: The tick]
+    // The count keeps its value at the load with sync and is zeroed when Sync hold ends. [Main.14] [Open: S1]
     assert_eq!(counts, [1, 1, 2, 2, 2, 0, 1, 1, 2, 2, 2, 0, 1, 1]);
     assert!(unit.has(csr::SYNC)); // [Main.11]
 }
@@ -62,7 +62,7 @@ fn the_count_survives_interval_go_and_bit_4() {
     unit.write(Supervisor::CSR, csr::GO);
     event(&mut unit);
     unit.run_to_idle();
-    assert_eq!(unit.record.sync_count, 4, "bit 4 clear: no count"); // [Open: The tick]
+    assert_eq!(unit.record.sync_count, 4, "bit 4 clear: no count"); // [Open: S1]
     unit.write(Supervisor::CSR, csr::ENABLE_SYNC);
     assert_eq!(event(&mut unit), Outcome::Event(0x15), "4 + 1 is past the shortened interval");
     // [Main.10]
@@ -79,7 +79,7 @@ fn sync_hold_waits_for_all_empty() {
     unit.tick(0, 0, 1);
     assert_eq!((unit.record.main, unit.used()), (MainState::SyncHold, [0; 4])); // [Tick.2]
 
-    // A branch at Drop may be empty. [Open: The tick]
+    // A branch at Drop may be empty. [Open: B4]
     assert_eq!(unit.states()[0], BranchState::Drop);
     unit.tick(0, 0, 1);
     assert_eq!((unit.record.main, unit.states()[0]), (MainState::Idle, BranchState::Drop)); // [Main.14]
@@ -100,7 +100,7 @@ fn pause_on_next_sync_clears_go() {
     }
     assert_eq!((unit.record.main, unit.used()), (MainState::SyncHold, [0; 4]));
     assert!(unit.has(bits));
-    // The tick that ends the hold still has GO for its pulses: lost, not stopped. [Open: The tick]
+    // The tick that ends the hold still has GO for its pulses: lost, not stopped. [Open: T1]
     let answer = unit.tick(1, 0, 0);
     assert_eq!((answer.lost, answer.stopped), (1, 0));
     assert_eq!(unit.record.csr & csr::CONTROLS, csr::ENABLE_SYNC); // [Main.14]
@@ -133,7 +133,7 @@ fn pause_and_sync_clears_go() {
         unit.quiet_ticks(3);
         assert!(unit.has(bits));
         let answer = unit.tick(1, 0, 0);
-        assert_eq!((answer.lost, answer.stopped), (1, 0)); // [Open: The tick]
+        assert_eq!((answer.lost, answer.stopped), (1, 0)); // [Open: T1]
         assert_eq!(unit.record.csr & csr::CONTROLS, csr::ENABLE_SYNC); // [Usersync.2]
         assert_eq!(unit.tick(1, 0, 0).stopped, 1);
     }
@@ -144,7 +144,7 @@ fn pause_and_sync_set_while_waiting_clears_go() {
     let mut unit = Unit::running(0, &[CONTROLLER], csr::GO | csr::FORCE_SYNC | csr::ENABLE_SYNC);
     unit.quiet_ticks(2);
     unit.tick(0, 0, 1);
-    unit.write(Supervisor::CSR, csr::PAUSE_AND_SYNC); // stands at the start of the ending tick [Open: The tick]
+    unit.write(Supervisor::CSR, csr::PAUSE_AND_SYNC); // stands at the start of the ending tick [Open: T5]
     unit.quiet();
     assert_eq!(unit.record.csr & csr::CONTROLS, csr::ENABLE_SYNC);
     assert!(!unit.record.user_sync_waiting);
@@ -162,7 +162,7 @@ fn pause_on_next_sync_is_left_by_a_user_sync() {
 #[test]
 fn a_user_sync_needs_neither_go_nor_front() {
     let mut unit = Unit::running(0, &[], csr::PAUSE_AND_SYNC | csr::ENABLE_SYNC);
-    let answer = unit.tick(0, line::FRONT_BUSY | line::INHIBIT, 0); // [Open: The tick]
+    let answer = unit.tick(0, line::FRONT_BUSY | line::INHIBIT, 0); // [Open: U1]
     assert_eq!(answer.outcome, Outcome::Tag(0x10));
     for _ in 0..3 {
         unit.tick(0, line::FRONT_BUSY, 0);
@@ -184,7 +184,7 @@ fn clearing_bit_4_does_not_end_a_wait() {
     unit.quiet();
     unit.write(Supervisor::CSR, csr::ENABLE_SYNC << 16);
     unit.quiet_ticks(10);
-    assert!(unit.record.user_sync_waiting); // [Open: The tick]
+    assert!(unit.record.user_sync_waiting); // [Open: U1]
     unit.tick(0, 0, 1);
     unit.quiet();
     assert_eq!(unit.record.csr & csr::CONTROLS, 0);
@@ -210,7 +210,7 @@ fn a_user_sync_waits_for_the_cycle_and_sees_idle_one_tick_later() {
     assert_eq!(unit.quiet().outcome, Outcome::Event(5));
     let answer = unit.quiet(); // main moves to Idle
     assert_eq!((answer.outcome, unit.record.main), (Outcome::Nothing, MainState::Idle));
-    assert_eq!(unit.quiet().outcome, Outcome::Tag(0x10)); // [Open: The tick]
+    assert_eq!(unit.quiet().outcome, Outcome::Tag(0x10)); // [Open: T1]
 }
 
 #[test]
@@ -221,7 +221,7 @@ fn a_tag_leaves_the_count_and_its_end_zeroes_it() {
     assert_eq!(unit.record.sync_count, 1);
     unit.write(Supervisor::CSR, csr::FORCE_SYNC);
     assert_eq!(unit.quiet().outcome, Outcome::Tag(0x10));
-    assert_eq!(unit.record.sync_count, 1); // [Open: The tick]
+    assert_eq!(unit.record.sync_count, 1); // [Open: S1]
     unit.quiet_ticks(3);
     assert!(!unit.record.user_sync_waiting);
     assert_eq!(unit.record.sync_count, 0); // [Usersync.2]
@@ -235,7 +235,7 @@ fn the_wait_ends_while_a_branch_is_at_drop() {
     unit.tick(0, 0, 1);
     assert!(!unit.record.user_sync_waiting);
     assert_eq!(unit.states()[0], BranchState::Drop);
-    assert!(unit.record.is_active()); // "Active" asks for Rest. [Active.1] [Open: The tick]
+    assert!(unit.record.is_active()); // "Active" asks for Rest. [Active.1] [Open: B4]
     unit.quiet();
     assert!(!unit.record.is_active());
 }
