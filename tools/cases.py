@@ -7,13 +7,14 @@
 Each script of crates/cases/data/scripts, ended there by a byte 1Eh, goes through the model's console, and so do two long ones
 that crates/cases/src/main.rt makes; a line `--` follows the answers of each.
 """
-import pathlib
 import subprocess
 import sys
 
-TOP = pathlib.Path(__file__).resolve().parent.parent
+from page import TOP, asks_check
+
 EXPECTED = TOP / "crates" / "cases" / "stdout"
 MODEL = TOP / "target" / "reference" / "release" / "console"
+BUILD = ["cargo", "build", "--quiet", "--release", "--target-dir", "../target/reference", "--bin", "console"]
 
 
 def scripts():
@@ -22,16 +23,29 @@ def scripts():
     return stored.split(b"\x1e") + [long[:65536], long]
 
 
+def model(script):
+    """What the model's console prints for a script."""
+    return subprocess.run([MODEL], input=script, stdout=subprocess.PIPE, check=True).stdout
+
+
+def build_model():
+    if subprocess.run([TOP / "tools" / "need", "cargo"]).returncode:
+        sys.exit(2)
+    subprocess.run(BUILD, cwd=TOP / "reference", check=True)
+
+
 def main():
-    build = ["cargo", "build", "--quiet", "--release", "--target-dir", "../target/reference", "--bin", "console"]
-    subprocess.run(build, cwd=TOP / "reference", check=True)
-    answers = [subprocess.run([MODEL], input=s, capture_output=True, check=True).stdout for s in scripts()]
-    expected = b"".join(a + b"--\n" for a in answers)
-    if "--check" in sys.argv:
-        same = EXPECTED.read_bytes() == expected
-        print(f"{len(answers)} scripts, " + ("as the model answers" if same else "crates/cases/stdout is not what the model answers"))
-        sys.exit(0 if same else 1)
-    EXPECTED.write_bytes(expected)
+    check = asks_check(__doc__)
+    build_model()
+    answers = [model(script) for script in scripts()]
+    expected = b"".join(answer + b"--\n" for answer in answers)
+    same = EXPECTED.read_bytes() == expected
+    if not check:
+        EXPECTED.write_bytes(expected)
+    says = "as the model answers" if same or not check else "crates/cases/stdout is not what the model answers"
+    print(f"{len(answers)} scripts, {says}")
+    return 0 if same or not check else 1
 
 
-main()
+if __name__ == "__main__":
+    sys.exit(main())
