@@ -1,5 +1,5 @@
-"""A script and its run: each line with its form, the console's answer to it and, for a tick, both in named fields and the
-state in which it leaves main. A script that the console refuses as a whole has no lines, but a reason (`refusal`)."""
+"""A script and its run: each line with its form, the console's answer to it, for a tick both in named fields, and where it
+leaves main. A script that the console refuses as a whole has no lines, but a reason (`refusal`)."""
 import dataclasses
 import re
 import subprocess
@@ -8,7 +8,7 @@ import typing
 
 import names
 from page import TOP
-from states import Follower, Misfit
+from states import Follower, Misfit, Standing
 
 
 @dataclasses.dataclass(frozen=True)
@@ -21,7 +21,7 @@ class Word:
 
 @dataclasses.dataclass(frozen=True)
 class Tick:
-    """A tick carried out: what it was given, what it answered, and what it left."""
+    """A tick carried out: what it was given and what it answered."""
 
     number: int
     triggers: int
@@ -32,10 +32,6 @@ class Tick:
     outcome: Word
     finished: typing.List[typing.Optional[int]]
     shown: typing.List[typing.Optional[int]]
-    # followed, see states.py: main before and after the tick, and whether a user sync waits after it
-    before: str = ""
-    state: str = ""
-    waits: bool = False
 
     @property
     def start(self):
@@ -60,9 +56,9 @@ class Line:
     fields: typing.List[int]
     answer: str
     declined: typing.Optional[int]
-    tick: typing.Optional[Tick] = None
-    # why the record is active, for a call that it declines with 4
-    active: typing.Sequence[str] = ()
+    tick: typing.Optional[Tick]
+    before: Standing
+    after: Standing
 
 
 @dataclasses.dataclass(frozen=True)
@@ -72,7 +68,8 @@ class Session:
 
     @property
     def ticks(self):
-        return [line.tick for line in self.lines if line.tick]
+        """The lines that are ticks carried out."""
+        return [line for line in self.lines if line.tick]
 
 
 def byte(number, branch):
@@ -157,26 +154,28 @@ def declined_by(number, kind, answer):
     return int(no[1]) if no else None
 
 
+def followed(follower, kind, fields, tick, answer):
+    """Takes the follower through a call that was carried out."""
+    if tick:
+        follower.ticked(tick)
+    elif kind == "W":
+        follower.wrote(*fields)
+    elif kind == "R":
+        follower.read(fields[0], int(answer, 16))
+
+
 def paired(follower, count, number, text, answer):
     """One line with its answer; follows main through it. count is the ticks carried out before it."""
     kind, fields = fields_of(text)
     declined = declined_by(number, kind, answer)
-    line = Line(number, text, kind, fields, answer, declined, active=follower.active() if declined == 4 else ())
+    tick = tick_of(count + 1, fields, answer) if kind == "T" and declined is None else None
+    before = follower.standing()
     try:
-        if declined is None and kind == "T":
-            tick = tick_of(count + 1, fields, answer)
-            before = follower.state
-            follower.ticked(tick)
-            return dataclasses.replace(
-                line, tick=dataclasses.replace(tick, before=before, state=follower.state, waits=follower.waits)
-            )
-        if declined is None and kind == "W":
-            follower.wrote(*fields)
-        if declined is None and kind == "R":
-            follower.read(fields[0], int(answer, 16))
+        if declined is None:
+            followed(follower, kind, fields, tick, answer)
     except Misfit as misfit:
         raise Misfit(f"line {number}: {misfit}") from None
-    return line
+    return Line(number, text, kind, fields, answer, declined, tick, before, follower.standing())
 
 
 def run(script, answers=None):
@@ -198,3 +197,14 @@ def run(script, answers=None):
         lines.append(paired(follower, count, number, text, answer))
         count += lines[-1].tick is not None
     return Session(lines)
+
+
+def of_file(path, parser):
+    """The session of a script's file. One that cannot be read gets the usage and exit 2; answers that do not fit, exit 1."""
+    try:
+        return run(path.read_bytes())
+    except OSError as error:
+        parser.error(f"{path}: {error.strerror}")
+    except Misfit as misfit:
+        print(f"the console's answers do not fit document 01: {misfit}", file=sys.stderr)
+        sys.exit(1)

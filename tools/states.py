@@ -1,5 +1,7 @@
 """Follows main's state, the user sync's wait, the queues and CSR bits 0–11 from a script's calls and answers alone. Each is
 what the call leaves. What does not fit document 01 is a Misfit, never a guess."""
+import typing
+
 import names
 from names import ACCEPT2, ACCEPT3, CLEAR, FAIL2, FAIL3, OK, PASS2, PASS3, START2, START3
 
@@ -74,6 +76,21 @@ def state_after(state, tick):
     return state if tick.out & OK else "Idle"
 
 
+def is_wanted(csr):
+    """A user sync is wanted: bit 2 or 3, with bit 4. [Ready.1]"""
+    return bool(csr & (names.PAUSE_AND_SYNC | names.FORCE_SYNC) and csr & names.ENABLE_SYNC)
+
+
+class Standing(typing.NamedTuple):
+    """What is followed, between two calls: main's state, whether a user sync waits, CSR bits 0–11, the words that each
+    branch holds."""
+
+    state: str
+    waits: bool
+    csr: int
+    held: typing.Tuple[int, ...]
+
+
 class Follower:
     def __init__(self):
         self.csr = 0
@@ -101,20 +118,8 @@ class Follower:
     def read(self, register, value):
         fit(register != names.CSR or value & 0xFFFF == self.csr, f"CSR bits 0–15 should be {self.csr:04X}")
 
-    def wanted(self):
-        """A user sync is wanted. [Ready.1]"""
-        return bool(self.csr & (names.PAUSE_AND_SYNC | names.FORCE_SYNC) and self.csr & names.ENABLE_SYNC)
-
-    def active(self):
-        """Why the record is active, in words. [Active.1]"""
-        held = [f"branch {b} holds {len(q)} word" + "s" * (len(q) > 1) for b, q in enumerate(self.queues, start=1) if q]
-        why = [
-            *(["GO is set"] if self.csr & names.GO else []),
-            *([f"main is at {self.state}"] if self.state != "Idle" else []),
-            *(["a user sync waits"] if self.waits else ["a user sync is wanted"] if self.wanted() else []),
-            *(["each branch holds a word"] if len(held) == 4 else held),
-        ]
-        return why or ["a branch is not at Rest"]
+    def standing(self):
+        return Standing(self.state, self.waits, self.csr, tuple(len(queue) for queue in self.queues))
 
     # ---- ticks
 
@@ -136,13 +141,13 @@ class Follower:
 
     def check_pulses(self, tick):
         """Pulses are latched only by a ready unit, as far as the script shows. [Ready.1]"""
-        ready = self.csr & names.GO and self.state == "Idle" and not self.waits and not self.wanted()
+        ready = self.csr & names.GO and self.state == "Idle" and not self.waits and not is_wanted(self.csr)
         latched = tick.masks["accepted"] | tick.masks["rejected"]
         fit(ready or not latched, f"pulses latched, but main is at {self.state}" + ", a user sync waits" * self.waits)
 
     def check_user_sync(self, tick):
         """A tag is loaded exactly where one is wanted, main is Idle and none waits. [Usersync.1]"""
-        due = self.wanted() and self.state == "Idle" and not self.waits
+        due = is_wanted(self.csr) and self.state == "Idle" and not self.waits
         fit((tick.outcome.kind == "tag") == due, "a tag is due" if due else "a tag that is not due")
 
     def is_late(self, state, tick):

@@ -1,0 +1,96 @@
+"""A VCD file, written and read: signals in scopes, and their values at times. A value is a string: the bits of a number, or
+the text of a string signal."""
+import typing
+
+
+class Signal(typing.NamedTuple):
+    scope: str
+    name: str
+    kind: str  # wire, string or event
+    width: int
+
+
+def key(number):
+    """A short name of printable characters, as the file's body uses it."""
+    text = ""
+    while True:
+        number, digit = divmod(number, 94)
+        text += chr(33 + digit)
+        if number == 0:
+            return text
+
+
+def header(comment, signals):
+    yield "$version tools/wave $end"
+    yield f"$comment\n{comment}\n$end"
+    yield "$timescale 1 ns $end"
+    scope = None
+    for number, signal in enumerate(signals):
+        if signal.scope != scope:
+            if scope is not None:
+                yield "$upscope $end"
+            yield f"$scope module {signal.scope} $end"
+            scope = signal.scope
+        yield f"$var {signal.kind} {signal.width} {key(number)} {signal.name} $end"
+    yield "$upscope $end"
+    yield "$enddefinitions $end"
+
+
+def change(signal, number, value):
+    if signal.kind == "string":
+        return f"s{value} {key(number)}"
+    return f"{value}{key(number)}" if signal.width == 1 else f"b{value} {key(number)}"
+
+
+def body(signals, moments):
+    """moments: (time, the values in the order of the signals). Only what changes is written; None writes nothing."""
+    last = [None] * len(signals)
+    for time, values in moments:
+        yield f"#{time}"
+        for number, (signal, value) in enumerate(zip(signals, values)):
+            if value is not None and (value != last[number] or signal.kind == "event"):
+                yield change(signal, number, value)
+                last[number] = value
+
+
+def text(comment, signals, moments):
+    return "\n".join([*header(comment, signals), *body(signals, moments)]) + "\n"
+
+
+# ---- reading back
+
+def read_header(tokens):
+    """The signals by their short name."""
+    signals, scopes = {}, []
+    while True:
+        word = next(tokens)
+        parts = list(iter(lambda: next(tokens), "$end"))
+        if word == "$enddefinitions":
+            return signals
+        if word == "$scope":
+            scopes.append(parts[1])
+        elif word == "$upscope":
+            scopes.pop()
+        elif word == "$var":
+            signals[parts[2]] = Signal(".".join(scopes), parts[3], parts[0], int(parts[1]))
+
+
+def read(content):
+    """The signals of a file, and a list of (time, {(scope, name): value}): the values as they stand after that time's
+    changes. An event stands only at its own time."""
+    tokens = iter(content.split())
+    signals = read_header(tokens)
+    moments, now = [], {}
+    for token in tokens:
+        if token[0] == "#":
+            now = {place: value for place, value in now.items() if signals_kind(signals, place) != "event"}
+            moments.append((int(token[1:]), now))
+            continue
+        short, value = (next(tokens), token[1:]) if token[0] in "bs" else (token[1:], token[0])
+        signal = signals[short]
+        now[signal.scope, signal.name] = value
+    return list(signals.values()), moments
+
+
+def signals_kind(signals, place):
+    return next(s.kind for s in signals.values() if (s.scope, s.name) == place)
