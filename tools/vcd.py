@@ -6,7 +6,7 @@ import typing
 class Signal(typing.NamedTuple):
     scope: str
     name: str
-    kind: str  # wire, string or event
+    kind: str  # wire or string
     width: int
 
 
@@ -48,7 +48,7 @@ def body(signals, moments):
     for time, values in moments:
         yield f"#{time}"
         for number, (signal, value) in enumerate(zip(signals, values)):
-            if value is not None and (value != last[number] or signal.kind == "event"):
+            if value is not None and value != last[number]:
                 yield change(signal, number, value)
                 last[number] = value
 
@@ -77,20 +77,16 @@ def read_header(tokens):
 
 def read(content):
     """The signals of a file, and a list of (time, {(scope, name): value}): the values as they stand after that time's
-    changes. An event stands only at its own time."""
+    changes."""
     tokens = iter(content.split())
     signals = read_header(tokens)
     moments, now = [], {}
     for token in tokens:
         if token[0] == "#":
-            now = {place: value for place, value in now.items() if signals_kind(signals, place) != "event"}
+            now = dict(now)
             moments.append((int(token[1:]), now))
             continue
         short, value = (next(tokens), token[1:]) if token[0] in "bs" else (token[1:], token[0])
         signal = signals[short]
         now[signal.scope, signal.name] = value
     return list(signals.values()), moments
-
-
-def signals_kind(signals, place):
-    return next(s.kind for s in signals.values() if (s.scope, s.name) == place)
