@@ -1,5 +1,5 @@
-"""A VCD file, written and read: signals in scopes, and their values at times. A value is a string: the bits of a number, or
-the text of a string signal."""
+"""A VCD file: signals in scopes, and their values at times. A value is a string: the bits of a number, or the text of a
+string signal."""
 import typing
 
 
@@ -55,38 +55,3 @@ def body(signals, moments):
 
 def text(comment, signals, moments):
     return "\n".join([*header(comment, signals), *body(signals, moments)]) + "\n"
-
-
-# ---- reading back
-
-def read_header(tokens):
-    """The signals by their short name."""
-    signals, scopes = {}, []
-    while True:
-        word = next(tokens)
-        parts = list(iter(lambda: next(tokens), "$end"))
-        if word == "$enddefinitions":
-            return signals
-        if word == "$scope":
-            scopes.append(parts[1])
-        elif word == "$upscope":
-            scopes.pop()
-        elif word == "$var":
-            signals[parts[2]] = Signal(".".join(scopes), parts[3], parts[0], int(parts[1]))
-
-
-def read(content):
-    """The signals of a file, and a list of (time, {(scope, name): value}): the values as they stand after that time's
-    changes."""
-    tokens = iter(content.split())
-    signals = read_header(tokens)
-    moments, now = [], {}
-    for token in tokens:
-        if token[0] == "#":
-            now = dict(now)
-            moments.append((int(token[1:]), now))
-            continue
-        short, value = (next(tokens), token[1:]) if token[0] in "bs" else (token[1:], token[0])
-        signal = signals[short]
-        now[signal.scope, signal.name] = value
-    return list(signals.values()), moments
