@@ -17,6 +17,7 @@ CSR_BITS = {
 }
 CONTROLS = 0xFFF
 GO, PAUSE_NEXT, PAUSE_AND_SYNC, FORCE_SYNC, ENABLE_SYNC, HARDWARE = (1 << bit for bit in range(6))
+USE_T5 = 1 << 8
 # [CSRWrite.1] [CSRWrite.2c] [CSRWrite.2d] only in a written value
 RESET, INITIALIZE, CLEAR_STATUS, CLEAR_SHIFT = 1 << 14, 1 << 15, 1 << 31, 16
 # [Control.1]

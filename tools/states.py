@@ -1,5 +1,5 @@
-"""Follows main's state, the user sync's wait, the queues and CSR bits 0–11 from a script's calls and answers alone. Each is
-what the call leaves. What does not fit document 01 is a Misfit, never a guess."""
+"""Follows main's state, c, the user sync's wait, the queues, CSR bits 0–11 and T5 from a script's calls and answers alone.
+Each is what the call leaves. What does not fit document 01 is a Misfit, never a guess."""
 import typing
 
 import names
@@ -93,23 +93,27 @@ class Standing(typing.NamedTuple):
 
 class Follower:
     def __init__(self):
-        self.csr = 0
+        self.fresh()
+
+    def fresh(self):
+        self.csr, self.t5 = 0, 0
         self.idle()
 
     def idle(self):
         """All sequencers at Idle and no word held, as RESET leaves them. [CSRWrite.2d]"""
-        self.state, self.out, self.late, self.waits = "Idle", 0, False, False
+        self.state, self.out, self.late, self.clear, self.waits = "Idle", 0, False, 0, False
         self.queues = [[], [], [], []]
 
     # ---- calls other than ticks
 
     def wrote(self, register, value):
         """A register write that was carried out. [CSRWrite.1] [CSRWrite.2a] [CSRWrite.2d]"""
+        if register == names.T5:
+            self.t5 = value
         if register != names.CSR:
             return
         if value & names.INITIALIZE:
-            self.csr = 0
-            return self.idle()
+            return self.fresh()
         self.csr = (self.csr | value & names.CONTROLS) & ~(value >> names.CLEAR_SHIFT & names.CONTROLS)
         if value & names.RESET:
             self.csr &= ~(names.GO | names.PAUSE_NEXT | names.PAUSE_AND_SYNC | names.FORCE_SYNC)
@@ -129,6 +133,7 @@ class Follower:
         self.check_user_sync(tick)
         state = state_after(self.state, tick)
         self.check_move(state, tick)
+        self.count_clear(state, tick)
         self.move_branches(tick)
         if self.state == "Sync hold":
             self.end_sync_hold(empty, state)
@@ -172,6 +177,15 @@ class Follower:
             fit(before & ~main in ((0, CLEAR) if self.state == "Clear" else (0,)), f"{move}: a line fell")
             fit(self.state == "Idle" or tick.pattern == self.out >> names.PATTERN_SHIFT, f"{move}: the accept pattern")
         fit(bool(tick.out & names.LEVEL1) == bool(self.csr & names.HARDWARE), "the line of CSR bit 5")
+
+    def count_clear(self, state, tick):
+        """c starts with the fail and falls to 0; only then can Clear end. [Main.15] [Main.16]"""
+        fit(state != "Idle" or self.clear == 0, "Clear ended while c was above 0")
+        if self.state != "Clear" and state == "Clear":
+            self.clear = max(1, self.t5) if self.csr & names.USE_T5 else 1
+        elif self.clear > 0:
+            self.clear -= 1
+        fit(bool(tick.out & CLEAR) == (self.clear > 0), f"the clear line, where c is {self.clear}")
 
     def move_branches(self, tick):
         """Finished and shown words are the queue's first; the load comes behind. [Branches.1] [Branches.2] [Branches.5]"""
