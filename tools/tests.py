@@ -210,6 +210,11 @@ class States(unittest.TestCase):
             self.misfits(script, answers, number, old, new)
         self.assertRaises(session.Misfit, session.run, script, answers[:-1])
 
+    def test_sync_hold_too_short(self):
+        """Sync hold left in tick 11 (line 16), at whose start the branches still hold the word."""
+        script = (TOP / "examples" / "scheduled_sync.txt").read_bytes()
+        self.misfits(script, session.printed(script), 16, "0115", "0000")
+
 
 class Words(unittest.TestCase):
     """What the commands make of their words, in a folder of their own."""

@@ -136,6 +136,13 @@ class Wave(unittest.TestCase):
             self.assertEqual((ran.returncode, ran.stdout), (1, ""))
             self.assertFalse((pathlib.Path(folder) / "none.vcd").exists())
 
+    def test_script_is_kept(self):
+        with tempfile.TemporaryDirectory() as folder:
+            script = pathlib.Path(folder) / "script.txt"
+            script.write_bytes(EXAMPLES[0].read_bytes())
+            self.assertEqual(tool("wave", script, script).returncode, 2)
+            self.assertEqual(script.read_bytes(), EXAMPLES[0].read_bytes())
+
 
 class Timing(unittest.TestCase):
     def test_page(self):
