@@ -161,6 +161,7 @@ class Diagrams(unittest.TestCase):
         """Each of these changes of a definition is noticed."""
         for place, old, new in [
             (0, "raise accept3Line ▷ withState Front", "raise accept3Line ▷ withState Space"),
+            (0, "raise accept3Line ▷ withState Front", "raise accept3Line ▷ withState Front ▷ withState Space"),
             (0, "moveIn Front t m = if t .front then loads else stays", "moveIn Front t m = loads"),
             (0, "if sync then SyncHold else Space", "if sync then SyncHold else Idle"),
             (0, "if sync then SyncHold else Space", "Space"),
