@@ -17,7 +17,7 @@ CSR_BITS = {
 }
 CONTROLS = 0xFFF
 GO, PAUSE_NEXT, PAUSE_AND_SYNC, FORCE_SYNC, ENABLE_SYNC, HARDWARE = (1 << bit for bit in range(6))
-USE_T5 = 1 << 8
+USE_T5, OVERRIDE = 1 << 8, 1 << 11
 # [CSRWrite.1] [CSRWrite.2c] [CSRWrite.2d] only in a written value
 RESET, INITIALIZE, CLEAR_STATUS, CLEAR_SHIFT = 1 << 14, 1 << 15, 1 << 31, 16
 # [Control.1]
@@ -32,7 +32,7 @@ TAKEN = (
 # [Tick.1] [Answer.1] by bit; the accept pattern is bits 8–15 of the lines out
 LINES_IN = ["strobe", "level 2 pass", "level 2 fail", "level 3 pass", "level 3 fail", "front busy", "inhibit"]
 LINES_OUT = ["level 1 OK", "level 2 start", "level 2 accept", "level 3 start", "level 3 accept", "clear", "CSR bit 5"]
-PASS2, FAIL2, PASS3, FAIL3 = (1 << bit for bit in range(1, 5))
+PASS2, FAIL2, PASS3, FAIL3, BUSY, INHIBIT = (1 << bit for bit in range(1, 7))
 OK, START2, ACCEPT2, START3, ACCEPT3, CLEAR, LEVEL1 = (1 << bit for bit in range(7))
 PATTERN_SHIFT = 8
 MASKS = ["stopped", "scaled", "lost", "rejected", "accepted"]

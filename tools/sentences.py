@@ -3,6 +3,7 @@ import names
 import session
 from declines import decline_words, form_faults
 from names import bits
+from states import unready
 
 
 def listed(items, none="nothing"):
@@ -151,11 +152,19 @@ def outcome_words(outcome):
     return [f"outcome {outcome.kind}" + (f" {word_words(outcome.number)}" if outcome.number is not None else "")]
 
 
-def answered_words(tick):
+def mask_words(line, mask):
+    """A mask's inputs; for lost pulses with the reason. [Ready.1]"""
+    pulses = line.tick.masks[mask]
+    why = f" ({', '.join(unready(line.before, line.tick.lines))})" if mask == "lost" else ""
+    return [f"{mask} {inputs(pulses)}{why}"] if pulses else []
+
+
+def answered_words(line):
+    tick = line.tick
     lines = [names.LINES_OUT[bit] for bit in bits(tick.out & 0xFF)]
     lines += [f"accept pattern {tick.pattern:02X}"] if tick.pattern else []
     parts = [
-        *(f"{mask} {inputs(pulses)}" for mask, pulses in tick.masks.items() if pulses),
+        *(words for mask in names.MASKS for words in mask_words(line, mask)),
         *(["lines out " + ", ".join(lines)] if lines else []),
         *outcome_words(tick.outcome),
         *by_branch("finished", tick.finished),
@@ -202,4 +211,4 @@ def line_words(line):
         return [call_words(line), *changes(line)]
     tick = line.tick
     given = f"tick {tick.number}, {tick.start} ns. In: {asked_words(tick)}"
-    return [given, f"Out: {answered_words(tick)}", *changes(line)]
+    return [given, f"Out: {answered_words(line)}", *changes(line)]

@@ -91,6 +91,18 @@ class Standing(typing.NamedTuple):
     held: typing.Tuple[int, ...]
 
 
+def unready(standing, lines):
+    """Why passed pulses are lost in a tick with these lines; nothing for a ready unit. [Ready.1]"""
+    inhibited = lines & names.INHIBIT and not standing.csr & names.OVERRIDE
+    return [
+        *(["GO is clear"] if not standing.csr & names.GO else []),
+        *([f"main is at {standing.state}"] if standing.state != "Idle" else []),
+        *(["a user sync waits"] if standing.waits else ["a user sync is wanted"] if is_wanted(standing.csr) else []),
+        *(["front busy is high"] if lines & names.BUSY else []),
+        *(["inhibit is high"] if inhibited else []),
+    ]
+
+
 class Follower:
     def __init__(self):
         self.fresh()
@@ -145,10 +157,11 @@ class Follower:
         self.state, self.out = state, tick.out
 
     def check_pulses(self, tick):
-        """Pulses are latched only by a ready unit, as far as the script shows. [Ready.1]"""
-        ready = self.csr & names.GO and self.state == "Idle" and not self.waits and not is_wanted(self.csr)
+        """Passed pulses are lost by a unit that is not ready, and latched by a ready one. [Ready.2] [Ready.3]"""
+        why = unready(self.standing(), tick.lines)
         latched = tick.masks["accepted"] | tick.masks["rejected"]
-        fit(ready or not latched, f"pulses latched, but main is at {self.state}" + ", a user sync waits" * self.waits)
+        fit(not (why and latched), f"pulses latched, but {', '.join(why)}")
+        fit(why or not tick.masks["lost"], "pulses lost by a ready unit")
 
     def check_user_sync(self, tick):
         """A tag is loaded exactly where one is wanted, main is Idle and none waits. [Usersync.1]"""

@@ -84,6 +84,20 @@ class Calls(unittest.TestCase):
                                      "acknowledges of branch 1 controller 0; branch 4 controller 7")
         self.assertEqual(said[5][1], "Out: finished by branch 1: 05 (code 5)")
 
+    def test_lost(self):
+        pulse, opened = "T 001 00 00000000", "W 01 00008002"
+        for why, *lines in [
+            ("GO is clear", opened, pulse),
+            ("main is at Delay", *FIRST[:4], pulse),
+            ("front busy is high", *FIRST[:3], "T 001 20 00000000"),
+            ("inhibit is high", *FIRST[:3], "T 001 40 00000000"),
+            ("a user sync waits", *FIRST[:3], "W 00 00000018", TICK, pulse),
+            ("GO is clear, a user sync is wanted, front busy is high", opened, "W 00 00000018", "T 001 20 00000000"),
+        ]:
+            self.assertIn(f"lost input 1 ({why})", line_words(run(*lines).lines[-1])[1])
+        overridden = run(*FIRST[:2], "W 00 00000801", "T 001 40 00000000").lines[-1]
+        self.assertIn("accepted input 1", line_words(overridden)[1])
+
     def test_user_sync(self):
         said = [line_words(line) for line in run("W 00 00000015", *[TICK] * 4).lines]
         self.assertEqual(said[1][1:], ["Out: outcome tag 10 (code 0, sync)", "a user sync waits"])
@@ -206,7 +220,7 @@ class States(unittest.TestCase):
         answers = session.printed(script)
         for number, old, new in [(11, "e07", "-"), (11, "e07", "g07"), (11, "e07", "e27"), (11, "e07", "e17"), (7, "-", "c"),
                                  (9, " - - - - - ", " - 07 - - - "), (12, "07 07 07 07", "06 07 07 07"), (14, "07", "08"),
-                                 (13, " 000 0000", " 001 0201"), (2, "ok", "no 6"), (6, "000", "0000")]:
+                                 (13, " 000 0000", " 001 0201"), (13, "000 000 000 0000", "001 000 000 0000"), (2, "ok", "no 6"), (6, "000", "0000")]:
             self.misfits(script, answers, number, old, new)
         self.assertRaises(session.Misfit, session.run, script, answers[:-1])
 
