@@ -53,7 +53,7 @@ def decline_words(line):
 
 def digits_fault(name, count, field):
     if len(field) != count:
-        return f"{name}: {len(field)} digits, where {count} are asked"
+        return f"{name}: {len(field)} digit{'s' * (len(field) != 1)}, where {count} are asked"
     if re.fullmatch("[0-9A-Fa-f]*", field):
         return f"{name}: lower-case digits"
     return f"{name}: not hexadecimal"
@@ -85,6 +85,7 @@ def form_faults(text):
     if not text:
         return faults + ["an empty line"]
     letter, *given = text.split("\t")
-    if letter.split(" ")[0] in names.FORMS and " " in text:
-        return faults + ["spaces, where tabs are asked"]
-    return faults + (fields_fault(letter, given) if letter in names.FORMS else [letter_fault(letter)])
+    head = letter.split(" ")[0]
+    if head not in names.FORMS:
+        return faults + [letter_fault(head)]
+    return faults + (["spaces, where tabs are asked"] if " " in text else fields_fault(letter, given))

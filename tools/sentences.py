@@ -187,7 +187,7 @@ def changes(line):
 # ---- any line
 
 def call_words(line):
-    """What a line asks and, for a read, what came back. A tick carried out is in tick_words."""
+    """What a line asks and, for a read, what came back. A tick carried out is in line_words."""
     first = line.fields[0]
     if line.kind == "W":
         return write_words(*line.fields)

@@ -12,8 +12,8 @@ from states import Follower, Misfit, Standing
 
 
 @dataclasses.dataclass(frozen=True)
-class Word:
-    """What became of an event: kind is one of names.OUTCOMES; number is None where there is no word."""
+class Outcome:
+    """What became of an event: kind is one of names.OUTCOMES; number is its word, None where there is none."""
 
     kind: str
     number: typing.Optional[int]
@@ -29,7 +29,7 @@ class Tick:
     acknowledges: int
     masks: typing.Dict[str, int]
     out: int
-    outcome: Word
+    outcome: Outcome
     finished: typing.List[typing.Optional[int]]
     shown: typing.List[typing.Optional[int]]
 
@@ -89,28 +89,29 @@ def fields_of(text):
 
 def refusal_of(script):
     """Why the console prints `no 6` alone; "" for a script that it runs. [Console.1] [Console.2] [Console.6]"""
+    rule = "first line must be `supervisor`, a tab, `1`"
     first = script.split(b"\n")[0]
     if len(script) > names.LONGEST:
         return f"the script has {len(script):,} bytes; {names.LONGEST:,} is the most"
     if not script:
-        return "the script is empty; its first line must be `supervisor`, a tab, `1`"
+        return f"the script is empty; its {rule}"
+    return "" if first == names.FIRST else f"the {rule}; {'; '.join(first_line_faults(first))}"
+
+
+def first_line_faults(first):
+    faults = ["it has a carriage return at its end (CRLF)"] if first.endswith(b"\r") else []
+    first = first.rstrip(b"\r")
     if first == names.FIRST:
-        return ""
-    return f"the first line must be `supervisor`, a tab, `1`; {first_line_fault(first)}"
-
-
-def first_line_fault(first):
+        return faults
     if not first:
-        return "it is empty"
-    if first.rstrip(b"\r") == names.FIRST:
-        return "it has a carriage return at its end (CRLF)"
+        return faults + ["it is empty"]
     if first.endswith(names.FIRST):
-        return f"other bytes stand before it: {shown(first[:-len(names.FIRST)])}"
+        return faults + [f"other bytes stand before it: {shown(first[:-len(names.FIRST)])}"]
     if first.split() == names.FIRST.split():
-        return "it has spaces, where one tab is asked" if b" " in first else "it has more than one tab"
+        return faults + ["it has spaces, where one tab is asked" if b" " in first else "it has more than one tab"]
     if first.decode("latin-1").split("\t")[0] in names.FORMS:
-        return f"it is missing: the script starts with the call `{shown(first)}`"
-    return f"it is `{shown(first)}`"
+        return faults + [f"it is missing: the script starts with the call `{shown(first)}`"]
+    return faults + [f"it is `{shown(first)}`"]
 
 
 def shown(text):
@@ -138,7 +139,7 @@ def tick_of(number, asked, answer):
         return None
     masks = dict(zip(names.MASKS, (int(mask, 16) for mask in parts[1].split())))
     words = [None if word == "-" else int(word, 16) for word in parts[4].split()]
-    outcome = Word(names.OUTCOMES[parts[3][0]], int(parts[3][1:], 16) if parts[3][1:] else None)
+    outcome = Outcome(names.OUTCOMES[parts[3][0]], int(parts[3][1:], 16) if parts[3][1:] else None)
     return Tick(number, *asked, masks, int(parts[2], 16), outcome, words[:4], words[4:])
 
 
@@ -179,7 +180,7 @@ def paired(follower, count, number, text, answer):
 
 
 def run(script, answers=None):
-    """The session of a script, given as bytes; answers are the console's, where they are not at hand."""
+    """The session of a script, given as bytes. answers: what the console printed for it, where that is at hand."""
     answers = printed(script) if answers is None else answers
     refusal = refusal_of(script)
     if refusal:

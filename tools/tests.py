@@ -137,9 +137,10 @@ class Declines(unittest.TestCase):
             ("", "an empty line"), ("W\t00\t00000001\r", "a carriage return at its end (CRLF)"),
             ("\r", "a carriage return at its end (CRLF); an empty line"),
             ("W 00 00000001", "spaces, where tabs are asked"), ("w\t00\t00000001", "lower-case letter `w`"),
+            ("t 000 00 00000000", "lower-case letter `t`"),
             ("X\t00", "it starts with none of the letters W, R, M, V, T"),
             ("# a", "it starts with none of the letters W, R, M, V, T; there are no comments"),
-            ("R\t0", "register: 1 digits, where 2 are asked"), ("R\t0a", "register: lower-case digits"),
+            ("R\t0", "register: 1 digit, where 2 are asked"), ("R\t0a", "register: lower-case digits"),
             ("R\t0G", "register: not hexadecimal"), ("R\t00\t", "a tab at its end"),
             ("M\t001", "fields: 1, where 2 are asked: place (3 digits), word (4 digits)"),
             ("T\t01\tzz\t00000000", "triggers: 2 digits, where 3 are asked; lines: not hexadecimal"),
@@ -164,6 +165,8 @@ class Refusals(unittest.TestCase):
         self.refused(b"", f"the script is empty; {asked}")
         self.refused(b"supervisor\t1\r\nR\t00\r\n", f"{first}; it has a carriage return at its end (CRLF)")
         self.refused(b"supervisor 1\nR\t00\n", f"{first}; it has spaces, where one tab is asked")
+        self.refused(b"supervisor 1\r\n", f"{first}; it has a carriage return at its end (CRLF); "
+                                          "it has spaces, where one tab is asked")
         self.refused(b"R\t00\n", f"{first}; it is missing: the script starts with the call `R 00`")
         self.refused(b"\nsupervisor\t1\n", f"{first}; it is empty")
         self.refused(b"supervisor\t2\n", f"{first}; it is `supervisor 2`")
