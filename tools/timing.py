@@ -4,81 +4,112 @@
     tools/timing.py           rewrites docs/TIMING.md
     tools/timing.py --check   exits 1 if docs/TIMING.md is not what the console prints
 """
-import pathlib
-import subprocess
+import itertools
 import sys
+import textwrap
 
-TOP = pathlib.Path(__file__).resolve().parent.parent
+import names
+import session
+from page import TOP, asks_check, keep
+from sentences import line_words
+
 PAGE = TOP / "docs" / "TIMING.md"
-
 SCRIPTS = [
-    ("first", "A class 1 event", "It waits for no higher level: level 2 and level 3 accept rise with the end of Delay, and Front loads the word."),
-    ("class3", "A class 3 event with both passes", "Level 2 passes, then level 3; the word is loaded from Front."),
-    ("late", "A late fail", "T1 is in use and the level 2 fail comes at 2 × T1 or after: the word is loaded with the late bit."),
+    ("first", "A class 1 event",
+     "It waits for no higher level: level 2 and level 3 accept rise with the end of Delay, and Front loads the word."),
+    ("class3", "A class 3 event with both passes",
+     "Level 2 passes, then level 3; the word is loaded from Front."),
+    ("late", "A late fail",
+     "T1 is in use and the level 2 fail comes at 2 × T1 or after: the word is loaded with the late bit."),
+    ("cleared", "A cleared event",
+     "The level 2 fail comes at age 5, before 2 × T1: the event is cleared. T5 is in use, so the clear line is high for T5 "
+     "ticks; the pulse after that is accepted."),
+    ("scheduled_sync", "A scheduled sync",
+     "Every second event has the sync bit; Sync hold keeps main until every branch is empty."),
+    ("user_sync", "A user sync",
+     "The tag is loaded while main is Idle. When every branch is empty the wait ends, and pause and sync is cleared with GO: "
+     "the next pulse is stopped."),
 ]
+HEAD = """# Timing
 
-# lines in and lines out, by bit
-IN = ["strobe", "level 2 pass", "level 2 fail", "level 3 pass", "level 3 fail", "front busy", "inhibit"]
-OUT = ["level 1 OK", "level 2 start", "level 2 accept", "level 3 start", "level 3 accept", "clear"]
-
-
-def ticks(name):
-    """The ticks of a script with the console's answer to each."""
-    script = (TOP / "examples" / f"{name}.txt").read_bytes()
-    printed = subprocess.run([str(TOP / "console")], input=script, stdout=subprocess.PIPE, check=True).stdout
-    asks = script.decode().splitlines()[1:]
-    answers = printed.decode().splitlines()
-    return [(a.split("\t"), b.split(" ")) for a, b in zip(asks, answers) if a.startswith("T")]
+Made by `tools/timing.py` from what the console prints for the scripts named. A column is a tick of 20 ns, with the time at
+which it starts. A line in and a mask are those of the tick; a line out, a shown word and main's state are as the tick leaves
+them. Main's state is followed from the calls and the answers; Hold is Sync hold. Calls other than ticks take no time and stand
+under the drawing. `tools/wave SCRIPT` writes the same as a file for GTKWave, `tools/explain SCRIPT` says it in words.
+"""
+COLUMNS = 125
+SHORT = {"Sync hold": "Hold"}
 
 
 def row(label, cells):
-    return f"{label:>16} " + " ".join(f"{cell:>3}" for cell in cells)
+    return f"{label:>16} " + " ".join(f"{cell:>5}" for cell in cells)
 
 
 def wave(label, levels):
-    return row(label, ["▔▔▔" if level else "▁▁▁" for level in levels])
+    return row(label, ["▔▔▔▔▔" if level else "▁▁▁▁▁" for level in levels])
 
 
-def waves(names, words):
-    """One wave for each line that is high in some tick."""
-    for bit, name in enumerate(names):
-        levels = [word >> bit & 1 for word in words]
+def waves(labels, numbers):
+    """One wave for each bit that is high in some tick."""
+    for bit, label in enumerate(labels):
+        levels = [number >> bit & 1 for number in numbers]
         if any(levels):
-            yield wave(name, levels)
+            yield wave(label, levels)
 
 
-def diagram(name):
-    run = ticks(name)
-    yield row("tick", range(1, len(run) + 1))
-    yield wave("trigger", [int(ask[1], 16) for ask, _ in run])
-    yield from waves(IN, [int(ask[2], 16) for ask, _ in run])
-    yield wave("accepted", [int(answer[4], 16) for _, answer in run])
-    yield from waves(OUT, [int(answer[5], 16) for _, answer in run])
-    yield row("outcome", [answer[6] for _, answer in run])
-    yield wave("acknowledge", [int(ask[3], 16) for ask, _ in run])
-    yield row("branch 1 shown", [answer[11] for _, answer in run])
-    yield row("finished", [answer[7] for _, answer in run])
+def word(number):
+    return "-" if number is None else f"{number:02X}"
+
+
+def outcome(tick):
+    marks = {kind: mark for mark, kind in names.OUTCOMES.items()}
+    return marks[tick.outcome.kind] + ("" if tick.outcome.number is None else word(tick.outcome.number))
+
+
+def diagram(lines):
+    ticks = [line.tick for line in lines]
+    yield row("tick", [tick.number for tick in ticks])
+    yield row("ns", [tick.start for tick in ticks])
+    yield wave("trigger", [tick.triggers for tick in ticks])
+    yield from waves(names.LINES_IN, [tick.lines for tick in ticks])
+    for mask in names.MASKS:
+        if mask == "accepted" or any(tick.masks[mask] for tick in ticks):
+            yield wave(mask, [tick.masks[mask] for tick in ticks])
+    yield row("main", [SHORT.get(line.after.state, line.after.state.replace(" ", "")) for line in lines])
+    yield from waves(names.LINES_OUT, [tick.out for tick in ticks])
+    yield row("outcome", [outcome(tick) for tick in ticks])
+    yield from waves(["user sync waits"], [line.after.waits for line in lines])
+    yield wave("acknowledge", [tick.acknowledges for tick in ticks])
+    yield row("branch 1 shown", [word(tick.shown[0]) for tick in ticks])
+    yield row("finished", [word(tick.finished[0]) for tick in ticks])
+
+
+def notes(run):
+    """The calls other than ticks, by the tick that they follow."""
+    number = 0
+    for is_tick, lines in itertools.groupby(run.lines, lambda line: line.tick is not None):
+        if is_tick:
+            number = list(lines)[-1].tick.number
+            continue
+        yield f"After tick {number}:\n" if number else "Before tick 1:\n"
+        for line in lines:
+            yield f"- `{session.shown(line.text)}`, `{line.answer}`: {'; '.join(line_words(line))}"
+        yield ""
 
 
 def page():
-    yield "# Timing\n"
-    yield "Made by `tools/timing.py` from what the console prints for the scripts named. A column is a tick; a line in and a mask"
-    yield "are those of the tick, a line out and a shown word are as the tick leaves them.\n"
+    yield HEAD
     for name, title, says in SCRIPTS:
-        yield f"## {title}\n"
-        yield f"`examples/{name}.txt`. {says}\n"
-        yield "```"
-        yield from diagram(name)
+        run = session.run((TOP / "examples" / f"{name}.txt").read_bytes())
+        yield f"## {title}\n\n" + textwrap.fill(f"`examples/{name}.txt`. {says}", COLUMNS) + "\n\n```"
+        yield from diagram(run.ticks)
         yield "```\n"
+        yield from notes(run)
 
 
 def main():
-    text = "\n".join(page()).rstrip() + "\n"
-    if "--check" in sys.argv:
-        if PAGE.read_text() != text:
-            sys.exit("docs/TIMING.md is not what the console prints: run tools/timing.py")
-        return
-    PAGE.write_text(text)
+    check = asks_check(__doc__)
+    return keep(PAGE, "\n".join(page()).rstrip() + "\n", check)
 
 
-main()
+sys.exit(main())

@@ -1,0 +1,226 @@
+"""Follows main's state, c, the user sync's wait, the queues, CSR bits 0–11 and T5 from a script's calls and answers alone.
+Each is what the call leaves. What does not fit document 01 is a Misfit, never a guess."""
+import typing
+
+import names
+from names import ACCEPT2, ACCEPT3, CLEAR, FAIL2, FAIL3, OK, PASS2, PASS3, START2, START3
+
+RAISED = OK | START2 | ACCEPT2 | START3 | ACCEPT3
+
+# the lines out that can rise, by the states before and after the tick; no other two states follow each other
+RISES = {
+    ("Idle", "Idle"): {0},
+    ("Idle", "Delay"): {OK},  # [Ready.5] [Main.2]
+    ("Idle", "Wait 2"): {OK | START2},
+    ("Wait 2", "Wait 2"): {0},
+    ("Wait 2", "Delay"): {ACCEPT2},  # [Main.4]
+    ("Wait 2", "Wait 3"): {ACCEPT2 | START3},
+    ("Wait 2", "Front"): {0},  # [Main.6] late
+    ("Wait 2", "Clear"): {CLEAR},
+    ("Wait 3", "Wait 3"): {0},
+    ("Wait 3", "Front"): {0, ACCEPT3},  # [Main.5]; 0 where it is late
+    ("Wait 3", "Clear"): {CLEAR},
+    ("Delay", "Delay"): {0, ACCEPT2, ACCEPT3},  # [Main.7]
+    ("Delay", "Front"): {ACCEPT2, ACCEPT3, ACCEPT2 | ACCEPT3},
+    ("Front", "Front"): {0},
+    ("Front", "Space"): {0},  # [Main.12]
+    ("Front", "Sync hold"): {0},
+    ("Space", "Space"): {0},
+    ("Space", "Idle"): {0},  # [Main.13]
+    ("Sync hold", "Sync hold"): {0},
+    ("Sync hold", "Idle"): {0},  # [Main.14]
+    ("Clear", "Clear"): {0},
+    ("Clear", "Idle"): {0},  # [Main.15]
+}
+# the outcome, where it is not none
+REPORTS = {
+    ("Wait 2", "Clear"): "cleared",
+    ("Wait 3", "Clear"): "cleared",
+    ("Front", "Space"): "event",
+    ("Front", "Sync hold"): "event",
+}
+
+
+class Misfit(AssertionError):
+    """An answer that does not follow from what went before."""
+
+
+def fit(holds, what):
+    if not holds:
+        raise Misfit(what)
+
+
+def after_wait(tick, fail, passes, passed, stays):
+    """Fail beats pass; a fail that does not clear is late. [Main.3] [Main.6]"""
+    if tick.lines & fail:
+        return "Clear" if tick.outcome.kind == "cleared" else "Front"
+    return passed if tick.lines & passes else stays
+
+
+def state_after(state, tick):
+    """Where the tick leaves main."""
+    if state == "Idle" and not tick.masks["accepted"]:
+        return "Idle"
+    if state == "Idle":
+        return "Wait 2" if tick.out & START2 else "Delay"
+    if state == "Delay":
+        return "Front" if tick.out & ACCEPT2 and tick.out & ACCEPT3 else "Delay"
+    if state == "Wait 2":
+        return after_wait(tick, FAIL2, PASS2, "Wait 3" if tick.out & START3 else "Delay", state)
+    if state == "Wait 3":
+        return after_wait(tick, FAIL3, PASS3, "Front", state)
+    if state == "Front":
+        word = tick.outcome.number
+        return "Front" if word is None else "Sync hold" if word & names.SYNC else "Space"
+    # Space, Sync hold and Clear end where level 1 OK falls [Main.17]
+    return state if tick.out & OK else "Idle"
+
+
+def is_wanted(csr):
+    """A user sync is wanted: bit 2 or 3, with bit 4. [Ready.1]"""
+    return bool(csr & (names.PAUSE_AND_SYNC | names.FORCE_SYNC) and csr & names.ENABLE_SYNC)
+
+
+class Standing(typing.NamedTuple):
+    """What is followed, between two calls: main's state, whether a user sync waits, CSR bits 0–11, the words that each
+    branch holds."""
+
+    state: str
+    waits: bool
+    csr: int
+    held: typing.Tuple[int, ...]
+
+
+def unready(standing, lines):
+    """Why passed pulses are lost in a tick with these lines; nothing for a ready unit. [Ready.1]"""
+    inhibited = lines & names.INHIBIT and not standing.csr & names.OVERRIDE
+    return [
+        *(["GO is clear"] if not standing.csr & names.GO else []),
+        *([f"main is at {standing.state}"] if standing.state != "Idle" else []),
+        *(["a user sync waits"] if standing.waits else ["a user sync is wanted"] if is_wanted(standing.csr) else []),
+        *(["front busy is high"] if lines & names.BUSY else []),
+        *(["inhibit is high"] if inhibited else []),
+    ]
+
+
+class Follower:
+    def __init__(self):
+        self.fresh()
+
+    def fresh(self):
+        self.csr, self.t5 = 0, 0
+        self.idle()
+
+    def idle(self):
+        """All sequencers at Idle and no word held, as RESET leaves them. [CSRWrite.2d]"""
+        self.state, self.out, self.late, self.clear, self.waits = "Idle", 0, False, 0, False
+        self.queues = [[], [], [], []]
+
+    # ---- calls other than ticks
+
+    def wrote(self, register, value):
+        """A register write that was carried out. [CSRWrite.1] [CSRWrite.2a] [CSRWrite.2d]"""
+        if register == names.T5:
+            self.t5 = value
+        if register != names.CSR:
+            return
+        if value & names.INITIALIZE:
+            return self.fresh()
+        self.csr = (self.csr | value & names.CONTROLS) & ~(value >> names.CLEAR_SHIFT & names.CONTROLS)
+        if value & names.RESET:
+            self.csr &= ~(names.GO | names.PAUSE_NEXT | names.PAUSE_AND_SYNC | names.FORCE_SYNC)
+            self.idle()
+
+    def read(self, register, value):
+        fit(register != names.CSR or value & 0xFFFF == self.csr, f"CSR bits 0–15 should be {self.csr:04X}")
+
+    def standing(self):
+        return Standing(self.state, self.waits, self.csr, tuple(len(queue) for queue in self.queues))
+
+    # ---- ticks
+
+    def ticked(self, tick):
+        empty = not any(self.queues)
+        self.check_pulses(tick)
+        self.check_user_sync(tick)
+        state = state_after(self.state, tick)
+        self.check_move(state, tick)
+        self.count_clear(state, tick)
+        self.move_branches(tick)
+        if self.state == "Sync hold":
+            self.end_sync_hold(empty, state)
+        if self.waits:
+            self.end_user_sync(empty)
+        else:
+            self.waits = tick.outcome.kind == "tag"
+        self.late = state != "Idle" and (self.late or self.is_late(state, tick))
+        self.state, self.out = state, tick.out
+
+    def check_pulses(self, tick):
+        """Passed pulses are lost by a unit that is not ready, and latched by a ready one. [Ready.2] [Ready.3]"""
+        why = unready(self.standing(), tick.lines)
+        latched = tick.masks["accepted"] | tick.masks["rejected"]
+        fit(not (why and latched), f"pulses latched, but {', '.join(why)}")
+        fit(why or not tick.masks["lost"], "pulses lost by a ready unit")
+
+    def check_user_sync(self, tick):
+        """A tag is loaded exactly where one is wanted, main is Idle and none waits. [Usersync.1]"""
+        due = is_wanted(self.csr) and self.state == "Idle" and not self.waits
+        fit((tick.outcome.kind == "tag") == due, "a tag is due" if due else "a tag that is not due")
+
+    def is_late(self, state, tick):
+        fails = {"Wait 2": FAIL2, "Wait 3": FAIL3}.get(self.state, 0)
+        return state == "Front" and bool(tick.lines & fails)
+
+    def check_move(self, state, tick):
+        """The lines out and the outcome are those of this move."""
+        move = f"main from {self.state} to {state}"
+        main, before = tick.out & (RAISED | CLEAR), self.out & (RAISED | CLEAR)
+        fit(main & ~before in RISES.get((self.state, state), ()), f"{move}: lines out {tick.out:04X}")
+        kind = tick.outcome.kind
+        fit(kind in (REPORTS.get((self.state, state), "none"), "tag"), f"{move}: outcome {kind}")
+        if kind == "event":
+            fit(bool(tick.outcome.number & names.LATE) == self.late, f"{move}: the word's late bit")
+        if self.is_late(state, tick):
+            fit(main == before, f"{move}: a late fail raises no line")
+        if state == "Idle":
+            fit(main == 0 and tick.pattern == 0, f"{move}: lines out {tick.out:04X}")
+        else:
+            # only the clear line falls in a cycle, in Clear [Main.16]
+            fit(before & ~main in ((0, CLEAR) if self.state == "Clear" else (0,)), f"{move}: a line fell")
+            fit(self.state == "Idle" or tick.pattern == self.out >> names.PATTERN_SHIFT, f"{move}: the accept pattern")
+        fit(bool(tick.out & names.LEVEL1) == bool(self.csr & names.HARDWARE), "the line of CSR bit 5")
+
+    def count_clear(self, state, tick):
+        """c starts with the fail and falls to 0; only then can Clear end. [Main.15] [Main.16]"""
+        fit(state != "Idle" or self.clear == 0, "Clear ended while c was above 0")
+        if self.state != "Clear" and state == "Clear":
+            self.clear = max(1, self.t5) if self.csr & names.USE_T5 else 1
+        elif self.clear > 0:
+            self.clear -= 1
+        fit(bool(tick.out & CLEAR) == (self.clear > 0), f"the clear line, where c is {self.clear}")
+
+    def move_branches(self, tick):
+        """Finished and shown words are the queue's first; the load comes behind. [Branches.1] [Branches.2] [Branches.5]"""
+        for b, queue in enumerate(self.queues):
+            finished, shown = tick.finished[b], tick.shown[b]
+            fit(finished is None or queue[:1] == [finished], f"branch {b + 1} finished a word that is not its first")
+            fit(finished is None or shown is None, f"branch {b + 1} finished a word and shows one")
+            del queue[: finished is not None]
+            fit(shown is None or queue[:1] == [shown], f"branch {b + 1} shows a word that is not its first")
+            if tick.outcome.number is not None:
+                queue.append(tick.outcome.number)
+            fit(len(queue) <= 8, f"branch {b + 1} holds more than 8 words")
+
+    def end_sync_hold(self, empty, state):
+        """It ends where all are empty at the tick's start; bit 1 goes with GO. [Main.14]"""
+        fit(empty == (state == "Idle"), "Sync hold ends where all branches are empty")
+        if empty and self.csr & names.PAUSE_NEXT:
+            self.csr &= ~(names.PAUSE_NEXT | names.GO)
+
+    def end_user_sync(self, empty):
+        """Waiting, all empty at the tick's start: bits 2 and 3 go, and GO by bit 2. [Usersync.2]"""
+        if empty:
+            self.waits = False
+            self.csr &= ~(names.GO if self.csr & names.PAUSE_AND_SYNC else 0)
+            self.csr &= ~(names.PAUSE_AND_SYNC | names.FORCE_SYNC)
