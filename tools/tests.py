@@ -1,20 +1,19 @@
 #!/usr/bin/env python3
-"""Tests of the tools that show a script's run: session and states, explain, wave, timing, diagrams.
+"""Tests of the tools: session and states, explain, wave, timing, diagrams, and what every command makes of its words.
 
     python3 tools/tests.py
 
 They run the console, so that it must be built; see ./console.
 """
 import pathlib
-import subprocess
-import sys
 import tempfile
 import unittest
 
 import session
 from page import TOP
 from sentences import line_words
-from tests_drawings import Diagrams, Timing, Wave  # noqa: F401  run here too
+from tests_commands import Console, Tags, Words, tool  # noqa: F401  the classes are run here too
+from tests_drawings import Diagrams, Timing, Wave  # noqa: F401
 
 TICK = "T 000 00 00000000"
 FIRST = ["M 001 0153", "W 01 00000002", "W 00 00000001", "T 001 00 00000000", TICK, TICK, TICK, TICK]
@@ -23,11 +22,6 @@ FIRST = ["M 001 0153", "W 01 00000002", "W 00 00000001", "T 001 00 00000000", TI
 def run(*lines):
     """The session of a script whose lines are given with spaces for tabs."""
     return session.run("\n".join(["supervisor\t1", *(line.replace(" ", "\t") for line in lines)]).encode("latin-1"))
-
-
-def tool(name, *arguments, folder=TOP):
-    command = [sys.executable, str(TOP / "tools" / name), *map(str, arguments)]
-    return subprocess.run(command, cwd=folder, stdout=subprocess.PIPE, stderr=subprocess.PIPE, encoding="utf-8")
 
 
 class Calls(unittest.TestCase):
@@ -231,28 +225,6 @@ class States(unittest.TestCase):
         """Sync hold left in tick 11 (line 16), at whose start the branches still hold the word."""
         script = (TOP / "examples" / "scheduled_sync.txt").read_bytes()
         self.misfits(script, session.printed(script), 16, "0115", "0000")
-
-
-class Words(unittest.TestCase):
-    """What the commands make of their words, in a folder of their own."""
-
-    def test_unknown_word(self):
-        example = TOP / "examples" / "first.txt"
-        for name, given in [("explain", [example]), ("wave", [example]), ("timing.py", []), ("diagrams.py", [])]:
-            with tempfile.TemporaryDirectory() as folder:
-                for extra in (["--chek"], ["a", "b", "c"], ["--che"]):
-                    ran = tool(name, *given, *extra, folder=folder)
-                    self.assertEqual((ran.returncode, ran.stdout), (2, ""), (name, extra))
-                    self.assertTrue(ran.stderr.startswith("usage: "), ran.stderr)
-                self.assertEqual(list(pathlib.Path(folder).iterdir()), [])
-                self.assertIn("usage: ", tool(name, "--help", folder=folder).stdout)
-
-    def test_missing_file(self):
-        for name in ("explain", "wave"):
-            self.assertEqual(tool(name).returncode, 2)
-            ran = tool(name, "no such file")
-            self.assertEqual((ran.returncode, ran.stdout), (2, ""))
-            self.assertIn("no such file: No such file or directory", ran.stderr)
 
 
 if __name__ == "__main__":

@@ -10,13 +10,9 @@ import names
 import session
 import svg
 from page import TOP, read
+from tests_commands import tool
 
 EXAMPLES = sorted((TOP / "examples").glob("*.txt"))
-
-
-def tool(name, *arguments):
-    command = [sys.executable, str(TOP / "tools" / name), *map(str, arguments)]
-    return subprocess.run(command, stdout=subprocess.PIPE, stderr=subprocess.PIPE, encoding="utf-8")
 
 
 class Vcd:

@@ -1,0 +1,129 @@
+"""Tests of the commands: what each makes of its words, the console's exit status, and what a tag of trace.py speaks of. Run by
+tests.py."""
+import pathlib
+import subprocess
+import sys
+import tempfile
+import unittest
+
+import trace
+from page import TOP
+
+FIRST = TOP / "examples" / "first.txt"
+SCRIPTS = {"explain": [FIRST], "wave": [FIRST]}
+PAGES = ["cases.py", "diagrams.py", "examples.py", "impostors.py", "links.py", "sizes.py", "timing.py", "trace.py"]
+
+
+def ran(*command, folder=TOP, **more):
+    pipes = dict(stdout=subprocess.PIPE, stderr=subprocess.PIPE, encoding="utf-8")
+    return subprocess.run([str(word) for word in command], cwd=folder, **pipes, **more)
+
+
+def tool(name, *words, folder=TOP):
+    return ran(sys.executable, TOP / "tools" / name, *words, folder=folder)
+
+
+class Words(unittest.TestCase):
+    """A word that a command does not know: the usage on standard error, exit 2, and nothing written."""
+
+    def refused(self, done):
+        self.assertEqual((done.returncode, done.stdout), (2, ""), done.args)
+        self.assertIn("usage: ", done.stderr, done.args)
+
+    def test_tools(self):
+        before = ran("git", "status", "--porcelain").stdout
+        for name in [*PAGES, "check", "explain", "prove.py", "wave"]:
+            with tempfile.TemporaryDirectory() as folder:
+                for extra in (["--chek"], ["a", "b", "c"], ["--che"]):
+                    self.refused(tool(name, *SCRIPTS.get(name, []), *extra, folder=folder))
+                self.assertEqual(list(pathlib.Path(folder).iterdir()), [], name)
+                self.assertIn("usage: ", tool(name, "--help", folder=folder).stdout)
+        self.assertEqual(ran("git", "status", "--porcelain").stdout, before)
+
+    def test_missing_file(self):
+        for name in ("explain", "wave"):
+            self.refused(tool(name))
+            done = tool(name, "no such file")
+            self.refused(done)
+            self.assertIn("no such file: No such file or directory", done.stderr)
+
+    def test_no_such_crate(self):
+        self.refused(tool("prove.py"))
+        self.refused(tool("prove.py", "no_such_crate"))
+
+    def test_reference(self):
+        compare, bench = TOP / "reference" / "compare", TOP / "reference" / "bench"
+        for words in (["1", "abc"], ["x"], ["--foo"], ["1", "2", "3"], ["--faults", "x"], ["--scripts"], ["--scripts", "no"]):
+            self.refused(ran(compare, *words))
+        for words in (["5x"], ["--foo"], ["1", "2"], ["--count", "1"]):
+            self.refused(ran(bench, *words))
+        for command in (compare, bench):
+            self.assertEqual((ran(command, "--help").returncode, ran(command, "--help").stderr), (0, ""))
+
+    def test_missing_program(self):
+        done = ran(TOP / "tools" / "need", "sh", "no_such_program")
+        self.assertEqual((done.returncode, done.stdout), (2, ""))
+        self.assertIn("missing: no_such_program", done.stderr)
+        self.assertNotIn("missing: sh", done.stderr)
+
+
+class Console(unittest.TestCase):
+    """The wrapper around the console program."""
+
+    answers = (TOP / "examples" / "answers" / "first.txt").read_text(encoding="utf-8")
+
+    def test_file_and_input(self):
+        with tempfile.TemporaryDirectory() as folder:
+            link = pathlib.Path(folder) / "link"
+            link.symlink_to(TOP / "console")
+            (pathlib.Path(folder) / "script").write_bytes(FIRST.read_bytes())
+            for done in (
+                ran(TOP / "console", "script", folder=folder),
+                ran(link, "script", folder=folder),
+                ran(TOP / "console", input=FIRST.read_text(encoding="utf-8"), folder=folder),
+            ):
+                self.assertEqual((done.returncode, done.stdout, done.stderr), (0, self.answers, ""))
+
+    def test_failures(self):
+        done = ran(TOP / "console", TOP)
+        self.assertEqual((done.returncode, done.stdout), (1, ""))
+        self.assertIn("standard input: ", done.stderr)
+        with open("/dev/full", "wb") as full:
+            done = subprocess.run([TOP / "console", FIRST], stdout=full, stderr=subprocess.PIPE)
+        self.assertEqual(done.returncode, 1)
+        self.assertIn(b"standard output: ", done.stderr)
+        self.assertEqual(ran(TOP / "console", "no such file").returncode, 1)
+
+    def test_words(self):
+        for words in (["--foo"], ["a", "b"]):
+            done = ran(TOP / "console", *words)
+            self.assertEqual((done.returncode, done.stdout), (2, ""))
+            self.assertIn("usage: ", done.stderr)
+        self.assertEqual(ran(TOP / "console", "--help").returncode, 0)
+
+
+class Tags(unittest.TestCase):
+    """Which declarations a tag of a comment speaks of."""
+
+    def named(self, *lines, mark="--", pattern=trace.ANTT):
+        return [names for _, names in trace.declarations(list(lines), mark, pattern)]
+
+    def test_one(self):
+        self.assertEqual(self.named("-- [Main.1]", "pub a : ℕ", "a = 1", "", "-- b", "pub b : ℕ"), [["a"]])
+        self.assertEqual(self.named("-- [Main.1]", "pub record R (m : M) : Type 0 where"), [["R"]])
+
+    def test_colon_on_the_next_line(self):
+        self.assertEqual(self.named("-- [Main.1]", "pub a", "    : long ≡ type", "a = refl"), [["a"]])
+
+    def test_two_of_one_type(self):
+        self.assertEqual(self.named("-- [Main.1]", "pub a : ℕ", "a = 1", "", "pub b : ℕ", "b = 2"), [["a", "b"]])
+        self.assertEqual(self.named("-- [Main.1]", "pub a : ℕ", "a = 1", "", "pub b : Bool", "pub c : ℕ"), [["a"]])
+
+    def test_head_of_a_file(self):
+        self.assertEqual(self.named("-- all of [Main.1]", "use lib.{x}", "", "pub a : ℕ"), [])
+
+    def test_code(self):
+        code = ["// [CSR.2] status", "pub const A: u32 = 1;", "", "pub const B: u32 = 2;", "", "fn c() -> u32", "{", "}"]
+        self.assertEqual(self.named(*code, mark="//", pattern=trace.RATTLE), [["A", "B"]])
+        field = ["struct S {", "    // [Main.6] late", "    pub late: bool,", "}", "", "pub struct T {"]
+        self.assertEqual(self.named(*field, mark="//", pattern=trace.RATTLE), [])
