@@ -45,18 +45,18 @@ MAIN = [
     ("Space", "leavesSpace", "Idle", "every branch is below its depth", "Main.13"),
     ("SyncHold", "stays", "SyncHold", "", "Main.14"),
     ("SyncHold", "endsSyncHold", "Idle", "every branch is empty", "Main.14"),
-    ("Clear", "countsClear", "Clear", "c falls to 0", "Main.15"),
+    ("Clear", "countsClear", "Clear", "clear count falls to 0", "Main.15"),
     ("Clear", "stays", "Clear", "", "Main.15"),
-    ("Clear", "endsClear", "Idle", "c = 0, front busy low, T4 over", "Main.15"),
+    ("Clear", "endsClear", "Idle", "clear count over, front busy low, T4 over", "Main.15"),
     (EVERY, "resetOf", "Idle", "RESET leads to Idle", "CSRWrite.2d"),
     (EVERY, "freshOf", "Idle", "INITIALIZE leads to Idle", "CSRWrite.1"),
 ]
 BRANCH = [
-    ("Rest", "stays", "Rest", "no word", "Branches.1"),
+    ("Rest", "stays", "Rest", "shows none", "Branches.1"),
     ("Rest", "strobes", "Strobe", "holds a word", "Branches.1"),
     ("Strobe", "stays", "Strobe", "shows its first word", "Branches.1"),
     ("Strobe", "finishes", "Drop", "all enabled|acknowledges high:|word finished", "Branches.2"),
-    ("Drop", "stays", "Drop", "", "Branches.3"),
+    ("Drop", "stays", "Drop", "shows none", "Branches.3"),
     ("Drop", "rests", "Rest", "all enabled acknowledges low", "Branches.3"),
 ]
 
