@@ -1,6 +1,6 @@
 -- The account's record, and changes of its parts. Nothing of document 01 is decided here.
 --     Account     what a bystander keeps; inputs and branches are counted from 0
---     Sums        for each input: its counted pulses and its bits in each mask
+--     Sums        by input: how many of its pulses counted, and how often each mask has its bit
 --     Events      how events went on
 --     withControl and so on: one part changed
 --     put f k v   the rule f with v at k

@@ -4,8 +4,8 @@
 -- bystander keep the account of the asks and replies. Then any branch, and so any two, share it with the bystander: the
 -- words that a branch finished, followed by those it holds, are the words loaded, in their order, one for each event loaded
 -- and each tag; and it holds at most eight. Every counted pulse of every input is in exactly one mask. Accepted events are
--- cleared, loaded or the one undecided, and main stands at Delay, Wait 2, Wait 3 or Front exactly when one is. Of n pulses
--- n div (F + 1) pass.
+-- cleared, loaded or the one undecided, and there is such a one if and only if main stands at Delay, Wait 2, Wait 3 or
+-- Front. Of n pulses n div (F + 1) pass.
 --     document 01    "The account of demand 3"
 --     Balanced       the statement, of a record and an account
 --     Demand3        it holds after every list of calls

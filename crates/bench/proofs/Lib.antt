@@ -1,5 +1,6 @@
--- What is computed, in the order of reading. Assumes nothing.
+-- What is computed, in the order of reading, and what sessions are. Assumes nothing.
 pub mod Opened
 pub mod Examples
 pub mod Script
 pub mod Misreadings
+pub mod SessionsLaws

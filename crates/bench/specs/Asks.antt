@@ -1,12 +1,12 @@
 -- The asks of an example by name: registers, bits of their values, lines, ticks. Nothing of document 01 is decided here.
---     write, store, pulse, lines, acknowledge   one ask
---     ticks n, times n asks, event i            several
+--     write, read, store, pulse, lines, acknowledge   one ask
+--     ticks n, times n l, event i   several
 -- Assumes nothing.
 use Prim.Native.Nat.{ℕ, zero, suc, _+_, _-_, _^_}
 use mathlib.Core.List.{List, [], _∷_, _++_}
 use lib.ListN.{replicate}
 use Rattle.core.specs.Lines.{inputsOf}
-use Rattle.calls.specs.Runs.{Ask, writeRegister, writeMemory, tick}
+use Rattle.calls.specs.Runs.{Ask, writeRegister, readRegister, writeMemory, tick}
 
 -- ---- the registers, as [Registers.1] numbers them
 
@@ -53,6 +53,10 @@ enableSync = 2 ^ 4
 abbrev pub useT1 : ℕ
 useT1 = 2 ^ 6
 
+-- [CSR.2] bit 17
+abbrev pub lateFail : ℕ
+lateFail = 2 ^ 17
+
 -- [Registers.1] controller 0 of branch 1, in ROC enable and in the acknowledges
 abbrev pub firstController : ℕ
 firstController = 2 ^ 0
@@ -68,6 +72,9 @@ fail2 = 2 ^ 2
 
 abbrev pub write : (register value : ℕ) → Ask
 write register value = writeRegister register value
+
+abbrev pub read : (register : ℕ) → Ask
+read register = readRegister register
 
 -- [Memory.1] the word for a pulse of input 1 alone
 abbrev pub store : (word : ℕ) → Ask
@@ -92,13 +99,18 @@ acknowledge a = bring 0 0 a
 abbrev pub ticks : (n : ℕ) → List Ask
 ticks n = replicate n (bring 0 0 0)
 
-unfoldable pub times : (n : ℕ) → List Ask → List Ask
-times zero asks = []
-times (suc n) asks = asks ++ times n asks
+-- n times the same, of asks or of what is seen
+unfoldable pub times : {A : Type 0} (n : ℕ) → List A → List A
+times zero l = []
+times (suc n) l = l ++ times n l
 
 -- a pulse that is accepted in class 1, with T2 and T3 at 0: then out of Delay, loaded, and out of Space if there is room
 abbrev pub event : (input : ℕ) → List Ask
 event input = pulse input ∷ ticks 3
+
+-- what its ticks load
+abbrev pub inEvent : (word : ℕ) → List ℕ
+inEvent word = 0 ∷ 0 ∷ word ∷ 0 ∷ []
 
 -- [Memory.2] words that are OK, with code 5: in class 1, in class 2
 abbrev pub class1 : ℕ

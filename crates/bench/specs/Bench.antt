@@ -4,21 +4,23 @@
 --     p1 .. p9Declined   the rows, one for each thing that a sentence says, by the number of its example
 --     examples      the table; allRight: each row sees what it says
 -- Where a row has pulses they are of input 1: a mask is then 1 or 0. The n-th tick after an accept is made at age n ([Main.1]).
--- Own rules of 01 used here: fail beats pass. Decisions: none. Left out: the misreadings, in proofs/Misreadings.
+-- Own rules of 01 used here: fail beats pass; the lowest class bit decides, and no class is not OK. Decisions: none.
+-- Left out: the misreadings, in proofs/Misreadings.
 -- Assumes nothing.
 use Prim.Native.Nat.{ℕ, _+_}
 use mathlib.Core.Bool.{Bool, true, _&&_}
 use mathlib.Core.List.{List, [], _∷_, _++_}
 use lib.Dec.{eqb}
-use lib.ListN.{length, take, drop}
+use lib.ListN.{length, take, drop, replicate}
 use Rattle.bits.specs.Bytes.{isSameOf}
 use Rattle.calls.specs.Answers.{Reply, declineOrZero}
 use Rattle.calls.specs.Runs.{Ask}
 use Rattle.bench.specs.Asks.{csr, control, factor, rocEnable, interval, t1, enable, openPrescales}
-use Rattle.bench.specs.Asks.{go, enableSync, useT1, firstController, pass2, fail2}
-use Rattle.bench.specs.Asks.{write, store, pulse, lines, ticks, times, event, class1, class2}
+use Rattle.bench.specs.Asks.{go, enableSync, useT1, lateFail, firstController, pass2, fail2}
+use Rattle.bench.specs.Asks.{write, read, store, pulse, lines, acknowledge, ticks, times}
+use Rattle.bench.specs.Asks.{event, inEvent, class1, class2}
 use Rattle.bench.specs.Sessions.{repliesTo, lost, rejected, passed, cleared, loaded, finished1}
-use Rattle.bench.specs.Sessions.{decline}
+use Rattle.bench.specs.Sessions.{readOut, decline}
 
 -- ---- a row
 
@@ -61,7 +63,7 @@ p3 =
     ask times 2 (pulse 1 ∷ [])
     look lost see 1 ∷ 1 ∷ []
 
--- [Bench.4] memory 0001h: OK without a class; and 0002h: a class without OK
+-- [Bench.4] [Memory.3] memory 0001h: OK without a class; and 0002h: a class without OK
 abbrev pub p4NoClass : Example
 p4NoClass = given store 0x0001 ∷ running ask pulse 1 ∷ [] look rejected see 1 ∷ []
 
@@ -79,42 +81,58 @@ p5 =
 abbrev pub aged : (n : ℕ) → List Ask
 aged n = store class2 ∷ write t1 3 ∷ runningWith useT1 ++ pulse 1 ∷ ticks n
 
--- [Bench.6] T1 = 3 in use: a fail at age 5 clears; at age 6 it is late, and the word that is loaded next has bit 5
+-- the same, with a fail in the next tick, at age n + 1
+abbrev pub failed : (n : ℕ) → List Ask
+failed n = aged n ++ lines fail2 ∷ []
+
+-- [Bench.6] a fail at age 5 clears the event, and status 17 stays clear
 abbrev pub p6Clears : Example
 p6Clears = given aged 4 ask lines fail2 ∷ [] look cleared see 1 ∷ []
 
+abbrev pub p6NoStatus : Example
+p6NoStatus = given failed 4 ask read csr ∷ [] look readOut see (go + useT1) ∷ []
+
+-- [Bench.6] at age 6 it is late: status 17 is set, and the word that is loaded next has bit 5
 abbrev pub p6IsLate : Example
 p6IsLate = given aged 5 ask lines fail2 ∷ [] look cleared see 0 ∷ []
 
+abbrev pub p6Status : Example
+p6Status = given failed 5 ask read csr ∷ [] look readOut see (go + useT1 + lateFail) ∷ []
+
 abbrev pub p6LateWord : Example
-p6LateWord = given aged 5 ++ lines fail2 ∷ [] ask ticks 1 look loaded see 0x25 ∷ []
+p6LateWord = given failed 5 ask ticks 1 look loaded see 0x25 ∷ []
 
 -- [Bench.7] interval 1 with CSR bit 4: each event has the sync bit
 abbrev pub p7 : Example
 p7 =
     given store class1 ∷ write interval 1 ∷ runningWith enableSync
     ask event 1 ++ ticks 8 ++ event 1
-    look loaded see 0x15 ∷ 0x15 ∷ []
+    look loaded see inEvent 0x15 ++ replicate 8 0 ++ inEvent 0x15
 
--- eight events, with one controller enabled that never acknowledges
+-- one controller is enabled, which will not acknowledge by itself; then eight events
+abbrev pub oneController : List Ask
+oneController = store class1 ∷ write rocEnable firstController ∷ running
+
 abbrev pub eightHeld : List Ask
-eightHeld = store class1 ∷ write rocEnable firstController ∷ running ++ times 8 (event 1)
+eightHeld = oneController ++ times 8 (event 1)
 
--- [Bench.8] eight words are held, none is finished, and a ninth pulse is lost
+-- [Bench.8] eight words are loaded, none is finished, and a ninth pulse is lost
 abbrev pub p8Loaded : Example
-p8Loaded =
-    given store class1 ∷ write rocEnable firstController ∷ running
-    ask times 8 (event 1)
-    look loaded see 5 ∷ 5 ∷ 5 ∷ 5 ∷ 5 ∷ 5 ∷ 5 ∷ 5 ∷ []
+p8Loaded = given oneController ask times 8 (event 1) look loaded see times 8 (inEvent 5)
 
 abbrev pub p8Finished : Example
-p8Finished =
-    given store class1 ∷ write rocEnable firstController ∷ running
-    ask times 8 (event 1)
-    look finished1 see []
+p8Finished = given oneController ask times 8 (event 1) look finished1 see replicate 32 0
 
 abbrev pub p8Lost : Example
 p8Lost = given eightHeld ask pulse 1 ∷ [] look lost see 1 ∷ []
+
+-- [Bench.8] so eight words are held: of nine acknowledges after the lost pulse, each with two ticks to strobe again, eight
+-- finish a word
+abbrev pub p8Held : Example
+p8Held =
+    given eightHeld ++ pulse 1 ∷ []
+    ask times 9 (acknowledge firstController ∷ ticks 2)
+    look finished1 see times 8 (5 ∷ 0 ∷ 0 ∷ []) ++ 0 ∷ 0 ∷ 0 ∷ []
 
 -- [Bench.9] the factor of input 8: 3FFFh is taken, 4000h is declined with 5
 abbrev pub p9Taken : Example
@@ -134,12 +152,15 @@ examples =
     ∷ p4NotOk
     ∷ p5
     ∷ p6Clears
+    ∷ p6NoStatus
     ∷ p6IsLate
+    ∷ p6Status
     ∷ p6LateWord
     ∷ p7
     ∷ p8Loaded
     ∷ p8Finished
     ∷ p8Lost
+    ∷ p8Held
     ∷ p9Taken
     ∷ p9Declined
     ∷ []

@@ -124,14 +124,14 @@ unfoldable pub movedOf : (acks enabled : ℕ) → Branch → BranchStep
 movedOf acks enabled b =
     movedBy (moveIn (b .phase) (hasWord b) (allHigh acks enabled) (allLow acks enabled)) b
 
--- [Spoiled.1f] a queue that is not above 7 has room for a word
-abbrev pub hasRoomOf : Branch → Bool
-hasRoomOf b = ltb (b .len) queueDepth
+-- [Spoiled.1f] a queue that is not above 7 has a place free for a word
+abbrev pub hasFreePlaceOf : Branch → Bool
+hasFreePlaceOf b = ltb (b .len) queueDepth
 
 -- DECISIONS B2: a full queue takes no load; no call meets this, since a record in which it could is spoiled
 unfoldable pub appendedOf : Slot → Branch → Branch
 appendedOf Nothing b = b
-appendedOf (Word w) b = if hasRoomOf b then b ▷ appendWord w else b
+appendedOf (Word w) b = if hasFreePlaceOf b then b ▷ appendWord w else b
 
 -- [Branches.5] the move first, then the load: a word loaded into an empty branch waits for the next tick
 unfoldable pub stepOf : (acks enabled : ℕ) → Slot → Branch → BranchStep
@@ -182,10 +182,10 @@ pub record WellFormedBranch (b : Branch) : Type 0 where
 abbrev pub isSixBitLoad : Slot → Bool
 isSixBitLoad load = allOf isSixBit (wordsIn load)
 
--- a load has room, and no load needs none
-abbrev pub hasRoomFor : Slot → Branch → Bool
-hasRoomFor Nothing b = true
-hasRoomFor (Word w) b = hasRoomOf b
+-- a load has a free place, and no load needs none
+abbrev pub hasPlaceFor : Slot → Branch → Bool
+hasPlaceFor Nothing b = true
+hasPlaceFor (Word w) b = hasFreePlaceOf b
 
 -- what a tick gives of a branch that it leaves as b, with nothing finished and nothing shown
 abbrev pub silent : Branch → BranchStep

@@ -10,7 +10,7 @@ ghost use Rattle.bits.specs.Notation.{if_then_else_};
 ghost use Rattle.bits.specs.Bytes.{bytes, allOf};
 ghost use Rattle.branch.specs.Slots.{isWordOf, wordOf};
 ghost use Rattle.branch.specs.Branch.{queueDepth, isSixBit, freshOf, isRestOf, isStrobeOf};
-ghost use Rattle.branch.specs.Branch.{isQuietOf, hasRoomOf, movedOf, appendedOf, stepOf, isWellFormedOf};
+ghost use Rattle.branch.specs.Branch.{isQuietOf, hasFreePlaceOf, movedOf, appendedOf, stepOf, isWellFormedOf};
 ghost use Rattle.branch.specs.declared.Phase.the-variants.{Rest, Strobe, Drop};
 ghost use Rattle.branch.specs.declared.Slot.the-variants.{Nothing, Word};
 use bits::select;
@@ -191,8 +191,8 @@ impl Branch {
     }
 
     // [Spoiled.1f] not above 7 words
-    pub fn has_room(self) -> bool
-        ensures { λ r. ⌜ r ≡ hasRoomOf self ⌝ }
+    pub fn has_free_place(self) -> bool
+        ensures { λ r. ⌜ r ≡ hasFreePlaceOf self ⌝ }
     {
         let len = self.len;
         len < Branch::DEPTH
@@ -235,8 +235,8 @@ impl Branch {
         let words = self.words;
         let len = self.len;
         let phase = self.phase;
-        let room = self.has_room();
-        let adds = load.is_word() & room;
+        let free = self.has_free_place();
+        let adds = load.is_word() & free;
         let longer = put(words, len, load.word());
         Branch {
             words: select(adds, longer, words),

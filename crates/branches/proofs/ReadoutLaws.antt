@@ -21,7 +21,7 @@ use Rattle.bits.specs.Bytes.{bytes, byteAt}
 use Rattle.bits.proofs.TestLaws.{and-left, and-right, every-at, or-rest}
 use Rattle.bits.proofs.BitsLaws.{tabulate-at, tabulate-length}
 use Rattle.branch.specs.Branch as branch
-use Rattle.branch.specs.Branch.{queueDepth, held, hasRoomFor, isSixBitLoad, WellFormedBranch}
+use Rattle.branch.specs.Branch.{queueDepth, held, hasPlaceFor, isSixBitLoad, WellFormedBranch}
 use Rattle.branch.specs.Slots.{wordsIn, isWordOf}
 use Rattle.branch.specs.declared.Slot.{Slot}
 use Rattle.branch.specs.declared.Slot.the-variants.{Nothing, Word}
@@ -44,15 +44,15 @@ module _ (eight : Bool) (r : Readout) (fine : isWellFormedOf eight r ≡ true) (
     pub well-formed-at : WellFormedBranch (branchAt (r .branches) k)
     well-formed-at =
         let b : Branch = branchAt (r .branches) k in
-        laws.well-formed-from-test b (and-right (eight || branch.hasRoomOf b) (branch.isWellFormedOf b) sound-at)
+        laws.well-formed-from-test b (and-right (eight || branch.hasFreePlaceOf b) (branch.isWellFormedOf b) sound-at)
 
     -- [Spoiled.1f] seven words at most where eight are not allowed
     pub room-for-load : (load : Slot) → (isWordOf load ≡ true → eight ≡ false)
-        → hasRoomFor load (branchAt (r .branches) k) ≡ true
+        → hasPlaceFor load (branchAt (r .branches) k) ≡ true
     room-for-load Nothing rule = refl
     room-for-load (Word w) rule =
         let b : Branch = branchAt (r .branches) k in
-        or-rest eight (branch.hasRoomOf b) (and-left (eight || branch.hasRoomOf b) (branch.isWellFormedOf b) sound-at)
+        or-rest eight (branch.hasFreePlaceOf b) (and-left (eight || branch.hasFreePlaceOf b) (branch.isWellFormedOf b) sound-at)
         (rule refl)
 
 -- ---- a tick

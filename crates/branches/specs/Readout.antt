@@ -99,7 +99,7 @@ silentOf r = record { next = r; sides = noSide ∷ noSide ∷ noSide ∷ noSide 
 
 -- [Spoiled.1d] [Spoiled.1f] [Spoiled.1g] one branch: seven words at most, unless eight are allowed
 abbrev pub isSoundBranchOf : (eight : Bool) → Branch → Bool
-isSoundBranchOf eight b = (eight || branch.hasRoomOf b) && branch.isWellFormedOf b
+isSoundBranchOf eight b = (eight || branch.hasFreePlaceOf b) && branch.isWellFormedOf b
 
 unfoldable pub isWellFormedOf : (eight : Bool) → Readout → Bool
 isWellFormedOf eight r = everyBranch (λ k b. isSoundBranchOf eight b) r

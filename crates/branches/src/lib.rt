@@ -86,7 +86,7 @@ fn depth(locked: bool) -> u32
 fn is_sound_branch(b: Branch, eight: bool) -> bool
     ensures { λ r. ⌜ r ≡ isSoundBranchOf eight b ⌝ }
 {
-    (eight | b.has_room()) & b.is_well_formed()
+    (eight | b.has_free_place()) & b.is_well_formed()
 }
 
 impl Readout {

@@ -156,7 +156,9 @@ pub fn write_register(s: Supervisor, number: u32, value: u32) -> WriteDone
     if Register::ASSIGN < number {
         return refused(s, Decline::Place);
     }
-    if s.is_active() & ((1 <= number) & (number <= Register::LAST_PROTECTED)) {
+    if s.is_active()
+        & ((Register::FIRST_PROTECTED <= number) & (number <= Register::LAST_PROTECTED))
+    {
         return refused(marked(s, Csr::WRITE_ERROR), Decline::Active);
     }
     let register = Register::numbered(number);

@@ -1,9 +1,9 @@
 // Runs the stored scripts of data/scripts through the library and prints the answers of each, with a line `--` after it.
 // A byte 1Eh ends each script there. Two more scripts, of 65,536 and 65,537 bytes, are made here. What must be printed,
 // in the file stdout, comes from the model in reference/ and never from this program.
-ghost use Prim.Native.Nat.{_≤_};
 ghost use mathlib.Core.Path.{_≡_};
 ghost use lib.ListN.{length};
+use bytes::scan;
 use libc::STDOUT_FILENO;
 
 const END_OF_SCRIPT: u8 = 30;
@@ -18,25 +18,11 @@ fn run(script: &[u8]) {
     io::write_all(STDOUT_FILENO, b"--\n");
 }
 
-// How many bytes of the rest belong to its first script.
-fn script_length(rest: &[u8]) -> usize
-    ensures { λ r. ⌜ r ≤ length (now (rest .entry)) ⌝ }
-{
-    let mut i = 0;
-    while i < rest.len() {
-        if rest[i] == END_OF_SCRIPT {
-            return i;
-        }
-        i += 1;
-    }
-    i
-}
-
 fn run_all(scripts: &[u8]) {
     let mut at = 0;
     while at < scripts.len() {
         let rest = &scripts[at..];
-        let n = script_length(rest);
+        let n = scan::find(rest, 0, rest.len(), END_OF_SCRIPT);
         run(&rest[..n]);
         at += n + 1;
     }
@@ -48,21 +34,10 @@ fn filler() -> [u8; LONG]
     [b'X'; LONG]
 }
 
-// Puts a text at the start of another.
-fn put_first(text: &[u8], to: &mut [u8])
-    requires { ⌜ length (now text) ≤ length (now to) ⌝ }
-{
-    let mut i = 0;
-    while i < text.len() {
-        to[i] = text[i];
-        i += 1;
-    }
-}
-
 // A read in a script whose last line is as long as it can be, and with one byte more.
 fn run_long() {
     let mut long = filler();
-    put_first(b"supervisor\t1\nR\t00\n", &mut long);
+    bytes::copy(b"supervisor\t1\nR\t00\n", &mut long);
     run(&long[..65536]);
     run(&long);
 }

@@ -177,7 +177,7 @@ UserSyncEndsExactly =
 -- held, is what was held followed by what was loaded.
 abbrev pub BranchKeepsOrder : Type 0
 BranchKeepsOrder =
-    (acks enabled : ℕ) (b : Branch) (load : Slot) → branch.isSixBitLoad load ≡ true → branch.hasRoomFor load b ≡ true
+    (acks enabled : ℕ) (b : Branch) (load : Slot) → branch.isSixBitLoad load ≡ true → branch.hasPlaceFor load b ≡ true
     → branch.WellFormedBranch b
     → wordsIn (branch.stepOf acks enabled load b .finished) ++ branch.held (branch.stepOf acks enabled load b .next)
     ≡ branch.held b ++ wordsIn load

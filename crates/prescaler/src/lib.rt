@@ -50,12 +50,10 @@ fn pulse(counted: bool, counter: u32, factor: u32) -> Counted
 }
 
 impl Prescalers {
-    // [Tick.1] [Registers.1] how many inputs there are, and how many of them have a prescaler
-    pub const INPUTS: u32 = 12;
-
+    // [Registers.1] how many inputs have a prescaler
     pub const PRESCALED_INPUTS: u32 = 8;
 
-    // the bits of all inputs, and of those with a prescaler: no bit is at or above these
+    // [Tick.1] the bits of all twelve inputs, and of those with a prescaler: no bit is at or above these
     const INPUTS_LIMIT: u32 = 4096;
 
     const PRESCALED_LIMIT: u32 = 256;

@@ -10,7 +10,7 @@ use native.Mathlib.Omega.{arith}
 use lib.ListN.{length, getD, length-append}
 use borrow.Author.Tests.{ltb-true, lt-ltb}
 use Rattle.bits.specs.Bytes.{allOf}
-use Rattle.branch.specs.Branch.{queueDepth, held, hasRoomOf}
+use Rattle.branch.specs.Branch.{queueDepth, held, hasFreePlaceOf}
 use Rattle.branch.specs.Branch as branch
 use Rattle.branch.specs.Slots.{wordsIn}
 use Rattle.branch.proofs.BranchLaws.{held-length}
@@ -68,7 +68,7 @@ module _ (acks : ℕ) (eight : Bool) (r : Readout) (sound : SoundReadout eight r
           by true q = leaves q e
           by false q = ltb-true (before .len) queueDepth (sound k h .room q)
 
-      go : (t : Bool) → isLoad o ≡ t → eight′ ≡ false → hasRoomOf (after (loadOf o)) ≡ true
+      go : (t : Bool) → isLoad o ≡ t → eight′ ≡ false → hasFreePlaceOf (after (loadOf o)) ≡ true
       go true q e = absurd (true≢false (sym (loads q) ∙ e))
       go false q e =
           rw (no-load o q)

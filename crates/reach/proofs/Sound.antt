@@ -22,7 +22,7 @@ use Rattle.sequencer.specs.States.{isIdle}
 use Rattle.sequencer.specs.MainSequencer.{WellFormedMain}
 use Rattle.sequencer.specs.MainSequencer as main
 use Rattle.sequencer.proofs.MainWellFormed as sequencer
-use Rattle.branch.specs.Branch.{hasRoomOf, WellFormedBranch}
+use Rattle.branch.specs.Branch.{hasFreePlaceOf, WellFormedBranch}
 use Rattle.branch.specs.Branch as branch
 use Rattle.branch.proofs.BranchLaws.{well-formed-from-test, well-formed-to-test}
 use Rattle.branch.specs.declared.Branch.{Branch}
@@ -54,7 +54,7 @@ pub record SoundCore (c : Core) : Type 0 where
 -- one branch: well formed, and with room where eight words are not allowed
 pub record SoundBranch (eight : Bool) (b : Branch) : Type 0 where
   pub wellFormed : WellFormedBranch b
-  pub room : eight ≡ false → hasRoomOf b ≡ true
+  pub room : eight ≡ false → hasFreePlaceOf b ≡ true
 
 abbrev pub SoundReadout : (eight : Bool) → Readout → Type 0
 SoundReadout eight r = (k : ℕ) → k < length (r .branches) → SoundBranch eight (branchAt (r .branches) k)
@@ -100,15 +100,15 @@ or-when false b h = h refl
 
 branch-from-test : (eight : Bool) (b : Branch) → readout.isSoundBranchOf eight b ≡ true → SoundBranch eight b
 branch-from-test eight b h =
-    let room = and-left (eight || hasRoomOf b) (branch.isWellFormedOf b) h in
+    let room = and-left (eight || hasFreePlaceOf b) (branch.isWellFormedOf b) h in
     record {
-      wellFormed = well-formed-from-test b (and-right (eight || hasRoomOf b) (branch.isWellFormedOf b) h);
-      room = or-rest eight (hasRoomOf b) room;
+      wellFormed = well-formed-from-test b (and-right (eight || hasFreePlaceOf b) (branch.isWellFormedOf b) h);
+      room = or-rest eight (hasFreePlaceOf b) room;
     }
 
 branch-to-test : (eight : Bool) (b : Branch) → SoundBranch eight b → readout.isSoundBranchOf eight b ≡ true
 branch-to-test eight b h =
-    and-both (eight || hasRoomOf b) (branch.isWellFormedOf b) (or-when eight (hasRoomOf b) (h .room))
+    and-both (eight || hasFreePlaceOf b) (branch.isWellFormedOf b) (or-when eight (hasFreePlaceOf b) (h .room))
     (well-formed-to-test b (h .wellFormed))
 
 module _ (eight : Bool) (r : Readout) where

@@ -1,45 +1,37 @@
 -- Laws of the reader: what its loops go by.
---     length-after, length-at, length-none, length-at-most   the length of a line, byte by byte; within the script
+--     found-is-length, length-at-most   the length of a line, as the kit's search finds it; within the script
 --     lines-end          a last line without its newline reads as with it
 --     lines-append       the lines up to a newline do not depend on the bytes after it
 --     lines-first        the lines of a script that is not empty: its first line, and those after its newline
 -- Assumes nothing.
-use Prim.Native.Nat.{ℕ, zero, suc, _+_, _<_, _≤_}
+use Prim.Native.Nat.{ℕ, suc, _+_, _<_, _≤_}
 use mathlib.Core.Path.{_≡_, refl, ap, _∙_}
 use mathlib.Core.Bool.{Bool, true, false, cond}
 use mathlib.Core.List.{List, [], _∷_, _++_}
 use native.Mathlib.Omega.{arith}
-use native.Mathlib.Numerals.{add-one}
 use lib.Dec.{eqb}
-use lib.ListN.{length, take, drop, getD}
-use lib.Seq.{drop-cons}
+use lib.ListN.{length, take, drop}
+use lib.Seq.{take-length}
+use Rattle.bytes.specs.Bytes.{indexOf, indexAfter, slice}
 use Rattle.bits.proofs.TestLaws.{by-cond}
 use Rattle.text.specs.Text.{newline}
 use Rattle.reader.specs.Reader.{beforeFirst, linesOf, lineLengthOf}
 
 -- ---- the first line
 
-length-step : (b : ℕ) (bs : List ℕ) (t : Bool) → eqb b newline ≡ t →
-    lineLengthOf (b ∷ bs) ≡ cond t 0 (suc (lineLengthOf bs))
-unfolding lineLengthOf
-length-step b bs t h = rw h
+-- the kit's index of a newline; in the whole rest, as the kit's search gives it
+index-is-length : (l : List ℕ) → indexOf newline l ≡ lineLengthOf l
+unfolding indexOf indexAfter lineLengthOf
+index-is-length [] = refl
+index-is-length (b ∷ bs) = step (eqb b newline) (index-is-length bs)
+  where
+    step : (t : Bool) {m n : ℕ} → m ≡ n → indexAfter t m ≡ cond t 0 (suc n)
+    step true h = refl
+    step false h = ap suc h
 
--- a byte that is no newline
-pub length-after : (s : List ℕ) (i : ℕ) → i < length s → eqb (getD s i 0) newline ≡ false →
-    i + lineLengthOf (drop i s) ≡ i + 1 + lineLengthOf (drop (i + 1) s)
-length-after s i k h = rw (add-one, drop-cons s i 0 k, length-step _ _ false h) (omega arith)
-
--- a newline
-pub length-at : (s : List ℕ) (i : ℕ) → i < length s → eqb (getD s i 0) newline ≡ true →
-    lineLengthOf (drop i s) ≡ 0
-length-at s i k h = rw (drop-cons s i 0 k, length-step _ _ true h)
-
-pub length-none : (s : List ℕ) (i : ℕ) → length s ≤ i → lineLengthOf (drop i s) ≡ 0
-unfolding lineLengthOf
-length-none [] zero k = refl
-length-none [] (suc i) k = refl
-length-none (b ∷ s) zero k = absurd (omega arith)
-length-none (b ∷ s) (suc i) k = length-none s i (omega arith)
+pub found-is-length : (l : List ℕ) → 0 + indexOf newline (slice 0 (length l) l) ≡ lineLengthOf l
+unfolding slice
+found-is-length l = rw (take-length l) (omega (arith, index-is-length l))
 
 pub length-at-most : (l : List ℕ) → lineLengthOf l ≤ length l
 unfolding lineLengthOf

@@ -5,6 +5,7 @@ ghost use Prim.Native.Nat.{_+_, _<_, _≤_, _^_};
 ghost use Rattle.reader.specs.Reader.{byteOf, hasDigitsOf, hasFieldOf, isWriteRegisterOf, isReadRegisterOf};
 ghost use Rattle.reader.specs.Reader.{isWriteMemoryOf, isReadMemoryOf, isTickOf, numberAt, commandOf};
 ghost use Rattle.reader.specs.Reader.{lineLengthOf, firstLineOf};
+use bytes::scan;
 use text::digit;
 use text::is_digit;
 
@@ -156,14 +157,7 @@ pub fn line_length(rest: &[u8]) -> usize
     ensures { λ r. ⌜ r ≡ lineLengthOf (now (rest .entry)) ⌝ }
     ensures { λ r. do ⌜ r ≤ (← ⟦rest.len()⟧ .entry) ⌝ }
 {
-    let mut i = 0;
-    while i < rest.len() {
-        if rest[i] == b'\n' {
-            return i;
-        }
-        i += 1;
-    }
-    i
+    scan::find(rest, 0, rest.len(), b'\n')
 }
 
 // [Console.4] the first line of the rest of a script, from any line onward

@@ -32,7 +32,7 @@ opensPrescales c = bitAt (c .word) 15
 
 -- ---- the pulses of a tick: bit i of triggers is input i + 1, strobe the strobe line
 
--- [Pulses.1] the input is enabled and, in strobe mode, the strobe is high
+-- [Pulses.1] its enable bit is set; strobe mode asks for a high strobe besides
 abbrev pub counts : Control → (strobe : Bool) (triggers i : ℕ) → Bool
 counts c strobe triggers i = bitAt triggers i && (isEnabled c i && (not (isStrobeMode c) || strobe))
 

@@ -1,5 +1,5 @@
 -- Worked examples of the timers, computed from the definitions.
---     late-at-six         bench example P6: with T1 = 3 in use a fail at age 5 clears, at age 6 it is late
+--     late-at-six         bench example P6: where T1 is used, 3 of its counts make a fail late from age 6 on
 --     front-at-four, clear-at-least-one
 -- Assumes nothing.
 use mathlib.Core.Path.{_≡_, refl}

@@ -15,7 +15,7 @@ abbrev μ-loop : tie.MeasureT-loop
 μ-loop scripts at₀ at = length scripts - at
 
 slice-aggregate-run : tie.Need-slice-aggregate-run Inv-loop μ-loop
-slice-aggregate-run c = sym (length-take-le _ _ (c .before .script-length .ensures))
+slice-aggregate-run c = sym (length-take-le _ _ (c .before .find .ensures .1))
 
 pub run-all-spec : {M : Type 1} → statement M
 run-all-spec =

@@ -9,8 +9,8 @@ use Rattle.cases.proofs.run_long.Tie as tie
 
 slice-aggregate-run : tie.Need-slice-aggregate-run
 slice-aggregate-run c =
-    let kept = c .before .before .put-first .kept .1 .0 in
-    sym (length-take-le 65536 (c .before .before .put-first .last .1 .0) (omega (arith, c .before .before .before .before .before .filler .ensures)))
+    let kept = c .before .before .copy .kept .1 .0 in
+    sym (length-take-le 65536 (c .before .before .copy .last .1 .0) (omega (arith, c .before .before .before .before .before .filler .ensures)))
 
 pub run-long-spec : {M : Type 1} → statement M
 run-long-spec =
