@@ -1,5 +1,5 @@
 -- `access::after_csr` meets its contract: one arm for each request.
--- Written by tools/prove.py; no answer was changed by hand. Assumes nothing.
+-- First written by tools/prove.py. Assumes nothing.
 use borrow.Author.Needs.{needs}
 use Rattle.access.proofs.after_csr.Statement.{statement}
 use Rattle.access.proofs.after_csr.Tie as tie

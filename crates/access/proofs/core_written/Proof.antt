@@ -1,5 +1,5 @@
 -- `access::core_written` meets its contract: one arm for each register.
--- Written by tools/prove.py; no answer was changed by hand. Assumes nothing.
+-- First written by tools/prove.py. Assumes nothing.
 use Rattle.access.specs.Access.{coreWrittenOf}
 use borrow.Author.Needs.{needs}
 use Rattle.access.proofs.core_written.Statement.{statement}

@@ -1,5 +1,5 @@
 -- `access::csr_written` meets its contract: the CSR's own write, then what it asks.
--- Written by tools/prove.py; no answer was changed by hand. Assumes nothing.
+-- First written by tools/prove.py. Assumes nothing.
 use Rattle.access.specs.Access.{csrWrittenOf}
 use borrow.Author.Needs.{needs}
 use Rattle.access.proofs.csr_written.Statement.{statement}

@@ -1,5 +1,5 @@
 -- `bits::bytes` meets its contract: the four quotients are the four bytes, one for one.
--- Written by tools/prove.py; no answer was changed by hand. Assumes nothing.
+-- First written by tools/prove.py. Assumes nothing.
 use mathlib.Core.Path.{refl}
 use Rattle.bits.specs.Bits.{tabulate}
 use borrow.Author.Needs.{needs}

@@ -1,5 +1,5 @@
 -- `branches::gathered` meets its contract: the literal is the definition, field by field.
--- Written by tools/prove.py; no answer was changed by hand. Assumes nothing.
+-- First written by tools/prove.py. Assumes nothing.
 use Rattle.branches.specs.Readout.{gatheredOf}
 use borrow.Author.Needs.{needs}
 use Rattle.branches.proofs.gathered.Statement.{statement}

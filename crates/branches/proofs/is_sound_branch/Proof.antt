@@ -1,5 +1,5 @@
 -- `branches::is_sound_branch` meets its contract: the branch's own two tests, joined as the definition joins them.
--- Written by tools/prove.py; no answer was changed by hand. Assumes nothing.
+-- First written by tools/prove.py. Assumes nothing.
 use borrow.Author.Needs.{needs}
 use Rattle.branches.proofs.is_sound_branch.Statement.{statement}
 use Rattle.branches.proofs.is_sound_branch.Tie as tie

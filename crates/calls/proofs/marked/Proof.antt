@@ -1,5 +1,5 @@
 -- `calls::marked` meets its contract: the CSR marked, put back into the core and the record.
--- Written by tools/prove.py; no answer was changed by hand. Assumes nothing.
+-- First written by tools/prove.py. Assumes nothing.
 use Rattle.calls.specs.Calls.{markedOf}
 use borrow.Author.Needs.{needs}
 use Rattle.calls.proofs.marked.Statement.{statement}

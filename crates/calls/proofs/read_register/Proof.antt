@@ -1,5 +1,5 @@
 -- `calls::read_register` meets its contract: each return is reached by the tests that the definition makes, in the same order.
--- Written by tools/prove.py; no answer was changed by hand. Assumes nothing.
+-- First written by tools/prove.py. Assumes nothing.
 use Rattle.calls.specs.Calls.{readRegisterOf}
 use borrow.Author.Tests.{le-ltb, lt-ltb}
 use borrow.Author.Needs.{needs}

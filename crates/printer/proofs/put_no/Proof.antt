@@ -1,5 +1,5 @@
--- `printer::put_no` meets its contract: five bytes one after the other, which `write` takes in turn. Written by
--- tools/prove.py; no answer was changed by hand. Assumes nothing.
+-- `printer::put_no` meets its contract: five bytes one after the other, which `write` takes in turn. First written by
+-- tools/prove.py. Assumes nothing.
 use Rattle.text.specs.Page.{write}
 use borrow.Author.Needs.{needs}
 use Rattle.printer.proofs.put_no.Statement.{statement}

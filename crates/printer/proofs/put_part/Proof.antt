@@ -1,5 +1,5 @@
--- `printer::put_part` meets its contract: the space, then the slot, which `write` takes in turn. Written by
--- tools/prove.py; no answer was changed by hand. Assumes nothing.
+-- `printer::put_part` meets its contract: the space, then the slot, which `write` takes in turn. First written by
+-- tools/prove.py. Assumes nothing.
 use Rattle.text.specs.Page.{write}
 use Rattle.printer.specs.TickParts.{slotPart}
 use borrow.Author.Needs.{needs}

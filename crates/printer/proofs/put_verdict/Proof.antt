@@ -1,5 +1,5 @@
 -- `printer::put_verdict` meets its contract: in each case of the verdict the one call's contract is the answer.
--- Written by tools/prove.py; no answer was changed by hand. Assumes nothing.
+-- First written by tools/prove.py. Assumes nothing.
 use Rattle.text.specs.Page.{write}
 use borrow.Author.Needs.{needs}
 use Rattle.printer.proofs.put_verdict.Statement.{statement}

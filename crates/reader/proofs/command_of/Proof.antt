@@ -1,5 +1,5 @@
 -- `reader::command_of` meets its contract: each return is reached by the tests that the definition makes, in the same order.
--- Written by tools/prove.py; no answer was changed by hand. Assumes nothing.
+-- First written by tools/prove.py. Assumes nothing.
 use Rattle.reader.specs.Reader.{commandOf}
 use borrow.Author.Needs.{needs}
 use Rattle.reader.proofs.command_of.Statement.{statement}

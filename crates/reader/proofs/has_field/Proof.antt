@@ -1,5 +1,5 @@
 -- `reader::has_field` meets its contract: its two tests are the definition's.
--- Written by tools/prove.py; no answer was changed by hand. Assumes nothing.
+-- First written by tools/prove.py. Assumes nothing.
 use borrow.Author.Needs.{needs}
 use Rattle.reader.proofs.has_field.Statement.{statement}
 use Rattle.reader.proofs.has_field.Tie as tie

@@ -1,5 +1,5 @@
 -- `reader::is_read_memory` meets its contract: the letter decides first, then the fields, each by its place.
--- Written by tools/prove.py; no answer was changed by hand. Assumes nothing.
+-- First written by tools/prove.py. Assumes nothing.
 use borrow.Author.Tests.{eq-eqb, ne-eqb}
 use borrow.Author.Needs.{needs}
 use Rattle.reader.proofs.is_read_memory.Statement.{statement}

@@ -1,5 +1,5 @@
 -- `supervisor::joined` meets its contract: the literal is the definition; lines out are those of the next core.
--- Written by tools/prove.py; no answer was changed by hand. Assumes nothing.
+-- First written by tools/prove.py. Assumes nothing.
 use Rattle.supervisor.specs.Supervisor.{joinedOf}
 use borrow.Author.Needs.{needs}
 use Rattle.supervisor.proofs.joined.Statement.{statement}

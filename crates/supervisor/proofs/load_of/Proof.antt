@@ -1,5 +1,5 @@
 -- `supervisor::load_of` meets its contract: one arm for each outcome.
--- Written by tools/prove.py; no answer was changed by hand. Assumes nothing.
+-- First written by tools/prove.py. Assumes nothing.
 use borrow.Author.Needs.{needs}
 use Rattle.supervisor.proofs.load_of.Statement.{statement}
 use Rattle.supervisor.proofs.load_of.Tie as tie

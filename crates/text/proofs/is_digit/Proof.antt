@@ -1,5 +1,5 @@
 -- `text::is_digit` meets its contract: its four tests are the definition's.
--- Written by tools/prove.py; no answer was changed by hand. Assumes nothing.
+-- First written by tools/prove.py. Assumes nothing.
 use Rattle.text.specs.Text.{isDigitOf}
 use mathlib.Core.Path.{refl}
 use Rattle.text.proofs.is_digit.Statement.{statement}

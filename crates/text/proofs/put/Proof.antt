@@ -1,5 +1,5 @@
 -- `text::put` meets its contract: room left, and the byte is set and the place moves on; none left, and both
--- stay: the two branches of `writeByte`. Written by tools/prove.py; no answer was changed by hand. Assumes nothing.
+-- stay: the two branches of `writeByte`. First written by tools/prove.py. Assumes nothing.
 use Rattle.text.specs.Page.{writeByte}
 use borrow.Author.Tests.{le-ltb, lt-ltb}
 use borrow.Author.Needs.{needs}

@@ -1,5 +1,5 @@
 -- `branches::Readout::fresh` meets its contract: four copies of the fresh branch.
--- Written by tools/prove.py; no answer was changed by hand. Assumes nothing.
+-- First written by tools/prove.py. Assumes nothing.
 use borrow.Author.Needs.{needs}
 use Rattle.branches.proofs.Readout.fresh.Statement.{statement}
 use Rattle.branches.proofs.Readout.fresh.Tie as tie

@@ -1,5 +1,5 @@
 -- `core::Core::allows_eight` meets its contract: the state's own test, or a wait.
--- Written by tools/prove.py; no answer was changed by hand. Assumes nothing.
+-- First written by tools/prove.py. Assumes nothing.
 use borrow.Author.Needs.{needs}
 use Rattle.core.proofs.Core.allows_eight.Statement.{statement}
 use Rattle.core.proofs.Core.allows_eight.Tie as tie

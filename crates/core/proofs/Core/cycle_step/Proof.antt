@@ -1,5 +1,5 @@
 -- `core::Core::cycle_step` meets its contract: main's step at the risen age, on the tests as their call ensures.
--- Written by tools/prove.py; no answer was changed by hand. Assumes nothing.
+-- First written by tools/prove.py. Assumes nothing.
 use borrow.Author.Needs.{needs}
 use Rattle.core.proofs.Core.cycle_step.Statement.{statement}
 use Rattle.core.proofs.Core.cycle_step.Tie as tie

@@ -1,5 +1,5 @@
 -- `core::Core::is_active` meets its contract: its tests are those of the active rule, one for one.
--- Written by tools/prove.py; no answer was changed by hand. Assumes nothing.
+-- First written by tools/prove.py. Assumes nothing.
 use borrow.Author.Needs.{needs}
 use Rattle.core.proofs.Core.is_active.Statement.{statement}
 use Rattle.core.proofs.Core.is_active.Tie as tie

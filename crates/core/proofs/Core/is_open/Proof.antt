@@ -1,5 +1,5 @@
 -- `core::Core::is_open` meets its contract: its tests are those of the ready rule, one for one.
--- Written by tools/prove.py; no answer was changed by hand. Assumes nothing.
+-- First written by tools/prove.py. Assumes nothing.
 use borrow.Author.Needs.{needs}
 use Rattle.core.proofs.Core.is_open.Statement.{statement}
 use Rattle.core.proofs.Core.is_open.Tie as tie

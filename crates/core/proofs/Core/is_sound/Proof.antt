@@ -1,5 +1,5 @@
 -- `core::Core::is_sound` meets its contract: its tests are the clauses of the definition, one for one.
--- Written by tools/prove.py; no answer was changed by hand. Assumes nothing.
+-- First written by tools/prove.py. Assumes nothing.
 use Rattle.core.specs.Core.{isSoundOf}
 use borrow.Author.Needs.{needs}
 use Rattle.core.proofs.Core.is_sound.Statement.{statement}

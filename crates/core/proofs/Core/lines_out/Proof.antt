@@ -1,5 +1,5 @@
 -- `core::Core::lines_out` meets its contract: a sum of parts that do not overlap, and that fits.
--- Written by tools/prove.py; no answer was changed by hand. Assumes nothing.
+-- First written by tools/prove.py. Assumes nothing.
 use Rattle.core.specs.Core.{linesOutOf}
 use borrow.Author.Needs.{needs}
 use Rattle.core.proofs.Core.lines_out.Statement.{statement}

@@ -1,5 +1,5 @@
 -- `core::Core::pulsed` meets its contract: the pulses that control counts, through the bank, as their calls ensure.
--- Written by tools/prove.py; no answer was changed by hand. Assumes nothing.
+-- First written by tools/prove.py. Assumes nothing.
 use Rattle.core.specs.Core.{pulsedOf}
 use borrow.Author.Needs.{needs}
 use Rattle.core.proofs.Core.pulsed.Statement.{statement}

@@ -1,5 +1,5 @@
 -- `core::Core::step` meets its contract: each part as its call ensures, given the record at the tick's start, settled.
--- Written by tools/prove.py; no answer was changed by hand. Assumes nothing.
+-- First written by tools/prove.py. Assumes nothing.
 use Rattle.core.specs.Core.{stepOf}
 use borrow.Author.Needs.{needs}
 use Rattle.core.proofs.Core.step.Statement.{statement}

@@ -1,5 +1,5 @@
 -- `core::Core::tests` meets its contract: the literal is the definition, each test as its call ensures.
--- Written by tools/prove.py; no answer was changed by hand. Assumes nothing.
+-- First written by tools/prove.py. Assumes nothing.
 use Rattle.core.specs.Core.{testsOf}
 use borrow.Author.Needs.{needs}
 use Rattle.core.proofs.Core.tests.Statement.{statement}

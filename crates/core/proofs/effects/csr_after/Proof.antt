@@ -1,5 +1,5 @@
 -- `core::effects::csr_after` meets its contract: three changes in a row, each as its call ensures.
--- Written by tools/prove.py; no answer was changed by hand. Assumes nothing.
+-- First written by tools/prove.py. Assumes nothing.
 use Rattle.core.specs.Effects.{csrAfterOf}
 use borrow.Author.Needs.{needs}
 use Rattle.core.proofs.effects.csr_after.Statement.{statement}

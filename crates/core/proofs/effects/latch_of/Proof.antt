@@ -1,5 +1,5 @@
 -- `core::effects::latch_of` meets its contract: one return for each of ready and OK, ready and not OK, not ready.
--- Written by tools/prove.py; no answer was changed by hand. Assumes nothing.
+-- First written by tools/prove.py. Assumes nothing.
 use borrow.Author.Needs.{needs}
 use Rattle.core.proofs.effects.latch_of.Statement.{statement}
 use Rattle.core.proofs.effects.latch_of.Tie as tie

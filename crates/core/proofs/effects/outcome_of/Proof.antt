@@ -1,5 +1,5 @@
 -- `core::effects::outcome_of` meets its contract: one return for each choice.
--- Written by tools/prove.py; no answer was changed by hand. Assumes nothing.
+-- First written by tools/prove.py. Assumes nothing.
 use borrow.Author.Needs.{needs}
 use Rattle.core.proofs.effects.outcome_of.Statement.{statement}
 use Rattle.core.proofs.effects.outcome_of.Tie as tie

@@ -1,5 +1,5 @@
 -- `core::effects::signals_of` meets its contract: the literal is the definition, field by field.
--- Written by tools/prove.py; no answer was changed by hand. Assumes nothing.
+-- First written by tools/prove.py. Assumes nothing.
 use borrow.Author.Needs.{needs}
 use Rattle.core.proofs.effects.signals_of.Statement.{statement}
 use Rattle.core.proofs.effects.signals_of.Tie as tie

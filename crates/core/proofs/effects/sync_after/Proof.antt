@@ -1,5 +1,5 @@
 -- `core::effects::sync_after` meets its contract: one return for each choice.
--- Written by tools/prove.py; no answer was changed by hand. Assumes nothing.
+-- First written by tools/prove.py. Assumes nothing.
 use Rattle.core.specs.Effects.{syncAfterOf}
 use borrow.Author.Needs.{needs}
 use Rattle.core.proofs.effects.sync_after.Statement.{statement}

@@ -1,5 +1,5 @@
 -- `prescaler::Prescalers::factor` meets its contract: within the bank it is the factor at the input's place, else 0.
--- Written by tools/prove.py; no answer was changed by hand. Assumes nothing.
+-- First written by tools/prove.py. Assumes nothing.
 use Rattle.prescaler.specs.Prescaler.{factorOf}
 use borrow.Author.Tests.{le-leb, lt-leb}
 use borrow.Author.Needs.{needs}

@@ -1,5 +1,5 @@
 -- `prescaler::Prescalers::with_factor` meets its contract: one return for each outcome of the two tests of the input.
--- Written by tools/prove.py; no answer was changed by hand. Assumes nothing.
+-- First written by tools/prove.py. Assumes nothing.
 use Rattle.prescaler.specs.Prescaler.{withFactorOf}
 use borrow.Author.Tests.{le-leb, lt-leb}
 use borrow.Author.Needs.{needs}

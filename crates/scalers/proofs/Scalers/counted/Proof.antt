@@ -1,5 +1,5 @@
 -- `scalers::Scalers::counted` meets its contract: both scalers by what their calls ensure.
--- Written by tools/prove.py; no answer was changed by hand. Assumes nothing.
+-- First written by tools/prove.py. Assumes nothing.
 use Rattle.scalers.specs.Scalers.{countedOf}
 use borrow.Author.Needs.{needs}
 use Rattle.scalers.proofs.Scalers.counted.Statement.{statement}

@@ -1,5 +1,5 @@
 -- `scalers::Scalers::zeroed` meets its contract: one return for each scaler.
--- Written by tools/prove.py; no answer was changed by hand. Assumes nothing.
+-- First written by tools/prove.py. Assumes nothing.
 use borrow.Author.Tests.{eq-eqb, ne-eqb}
 use Rattle.scalers.proofs.Scalers.zeroed.Statement.{statement}
 use Rattle.scalers.proofs.Scalers.zeroed.Tie as tie

@@ -1,5 +1,5 @@
 -- `scalers::Signals::counts` meets its contract: the codes are tested as the definition tests them, in the same order.
--- Written by tools/prove.py; no answer was changed by hand. Assumes nothing.
+-- First written by tools/prove.py. Assumes nothing.
 use Rattle.scalers.specs.Scalers.{countsOf}
 use borrow.Author.Tests.{eq-eqb, le-leb, le-ltb, lt-leb, lt-ltb, ne-eqb}
 use borrow.Author.Needs.{needs}

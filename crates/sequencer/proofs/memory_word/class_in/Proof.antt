@@ -1,5 +1,5 @@
 -- `sequencer::memory_word::class_in` meets its contract: the tests are those of the definition, in the same order.
--- Written by tools/prove.py; no answer was changed by hand. Assumes nothing.
+-- First written by tools/prove.py. Assumes nothing.
 use Rattle.sequencer.specs.MemoryWord.{classInOf}
 use borrow.Author.Tests.{eq-eqb, ne-eqb}
 use Rattle.sequencer.proofs.memory_word.class_in.Statement.{statement}

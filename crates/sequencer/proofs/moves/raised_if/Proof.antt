@@ -1,5 +1,5 @@
 -- `sequencer::moves::raised_if` meets its contract: one return for each choice.
--- Written by tools/prove.py; no answer was changed by hand. Assumes nothing.
+-- First written by tools/prove.py. Assumes nothing.
 use borrow.Author.Needs.{needs}
 use Rattle.sequencer.proofs.moves.raised_if.Statement.{statement}
 use Rattle.sequencer.proofs.moves.raised_if.Tie as tie

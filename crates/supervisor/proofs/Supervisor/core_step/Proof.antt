@@ -1,5 +1,5 @@
 -- `supervisor::Supervisor::core_step` meets its contract: the core's step, with the two facts as their calls ensure them.
--- Written by tools/prove.py; no answer was changed by hand. Assumes nothing.
+-- First written by tools/prove.py. Assumes nothing.
 use Rattle.supervisor.specs.Supervisor.{coreStepOf}
 use borrow.Author.Needs.{needs}
 use Rattle.supervisor.proofs.Supervisor.core_step.Statement.{statement}

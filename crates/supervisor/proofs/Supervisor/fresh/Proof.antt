@@ -1,5 +1,5 @@
 -- `supervisor::Supervisor::fresh` meets its contract: both parts fresh.
--- Written by tools/prove.py; no answer was changed by hand. Assumes nothing.
+-- First written by tools/prove.py. Assumes nothing.
 use Rattle.supervisor.specs.Supervisor.{freshOf}
 use borrow.Author.Needs.{needs}
 use Rattle.supervisor.proofs.Supervisor.fresh.Statement.{statement}

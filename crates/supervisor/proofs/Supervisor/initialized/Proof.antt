@@ -1,5 +1,5 @@
 -- `supervisor::Supervisor::initialized` meets its contract: both parts fresh, with as many branches.
--- Written by tools/prove.py; no answer was changed by hand. Assumes nothing.
+-- First written by tools/prove.py. Assumes nothing.
 use Rattle.supervisor.specs.Supervisor.{initializedOf, freshOf}
 use borrow.Author.Needs.{needs}
 use Rattle.supervisor.proofs.Supervisor.initialized.Statement.{statement}

@@ -1,5 +1,5 @@
 -- `supervisor::Supervisor::is_active` meets its contract: the core's rule, or a branch that is not quiet.
--- Written by tools/prove.py; no answer was changed by hand. Assumes nothing.
+-- First written by tools/prove.py. Assumes nothing.
 use Rattle.supervisor.specs.Supervisor.{isActiveOf}
 use borrow.Author.Needs.{needs}
 use Rattle.supervisor.proofs.Supervisor.is_active.Statement.{statement}

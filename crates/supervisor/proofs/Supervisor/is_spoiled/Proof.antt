@@ -1,5 +1,5 @@
 -- `supervisor::Supervisor::is_spoiled` meets its contract: both parts' tests, as their calls ensure them.
--- Written by tools/prove.py; no answer was changed by hand. Assumes nothing.
+-- First written by tools/prove.py. Assumes nothing.
 use Rattle.supervisor.specs.Supervisor.{isSpoiledOf}
 use borrow.Author.Needs.{needs}
 use Rattle.supervisor.proofs.Supervisor.is_spoiled.Statement.{statement}

@@ -1,5 +1,5 @@
 -- `supervisor::Supervisor::readout_step` meets its contract: the readout's step, with the word that the outcome loads.
--- Written by tools/prove.py; no answer was changed by hand. Assumes nothing.
+-- First written by tools/prove.py. Assumes nothing.
 use Rattle.supervisor.specs.Supervisor.{readoutStepOf}
 use borrow.Author.Needs.{needs}
 use Rattle.supervisor.proofs.Supervisor.readout_step.Statement.{statement}

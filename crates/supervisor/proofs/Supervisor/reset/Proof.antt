@@ -1,5 +1,5 @@
 -- `supervisor::Supervisor::reset` meets its contract: both parts reset.
--- Written by tools/prove.py; no answer was changed by hand. Assumes nothing.
+-- First written by tools/prove.py. Assumes nothing.
 use Rattle.supervisor.specs.Supervisor.{resetOf}
 use borrow.Author.Needs.{needs}
 use Rattle.supervisor.proofs.Supervisor.reset.Statement.{statement}

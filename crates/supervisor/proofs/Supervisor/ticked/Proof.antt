@@ -1,5 +1,5 @@
 -- `supervisor::Supervisor::ticked` meets its contract: the core's step, then the readout's, joined.
--- Written by tools/prove.py; no answer was changed by hand. Assumes nothing.
+-- First written by tools/prove.py. Assumes nothing.
 use Rattle.supervisor.specs.Supervisor.{tickedOf}
 use borrow.Author.Needs.{needs}
 use Rattle.supervisor.proofs.Supervisor.ticked.Statement.{statement}

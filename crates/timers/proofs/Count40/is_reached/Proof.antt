@@ -1,5 +1,5 @@
 -- `timers::Count40::is_reached` meets its contract: the ticks are what their call ensures.
--- Written by tools/prove.py; no answer was changed by hand. Assumes nothing.
+-- First written by tools/prove.py. Assumes nothing.
 use borrow.Author.Needs.{needs}
 use Rattle.timers.proofs.Count40.is_reached.Statement.{statement}
 use Rattle.timers.proofs.Count40.is_reached.Tie as tie

@@ -1,5 +1,5 @@
 -- `timers::Timers::front_test` meets its contract: T4's own test, between the two others.
--- Written by tools/prove.py; no answer was changed by hand. Assumes nothing.
+-- First written by tools/prove.py. Assumes nothing.
 use borrow.Author.Needs.{needs}
 use Rattle.timers.proofs.Timers.front_test.Statement.{statement}
 use Rattle.timers.proofs.Timers.front_test.Tie as tie

@@ -1,5 +1,5 @@
 -- `timers::Timers::is_late_due` meets its contract: T1's own test, where it is in use.
--- Written by tools/prove.py; no answer was changed by hand. Assumes nothing.
+-- First written by tools/prove.py. Assumes nothing.
 use borrow.Author.Needs.{needs}
 use Rattle.timers.proofs.Timers.is_late_due.Statement.{statement}
 use Rattle.timers.proofs.Timers.is_late_due.Tie as tie

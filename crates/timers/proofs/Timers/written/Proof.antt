@@ -1,5 +1,5 @@
 -- `timers::Timers::written` meets its contract: one return for each timer.
--- Written by tools/prove.py; no answer was changed by hand. Assumes nothing.
+-- First written by tools/prove.py. Assumes nothing.
 use Rattle.timers.specs.Timers.{writtenOf}
 use borrow.Author.Tests.{eq-eqb, ne-eqb}
 use borrow.Author.Needs.{needs}

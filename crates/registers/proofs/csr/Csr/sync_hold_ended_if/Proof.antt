@@ -1,5 +1,5 @@
 -- `registers::csr::Csr::sync_hold_ended_if` meets its contract: one return for each choice.
--- Written by tools/prove.py; no answer was changed by hand. Assumes nothing.
+-- First written by tools/prove.py. Assumes nothing.
 use Rattle.registers.specs.Csr.{syncHoldEndedIfOf}
 use borrow.Author.Needs.{needs}
 use Rattle.registers.proofs.csr.Csr.sync_hold_ended_if.Statement.{statement}

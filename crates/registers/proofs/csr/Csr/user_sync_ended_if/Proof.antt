@@ -1,5 +1,5 @@
 -- `registers::csr::Csr::user_sync_ended_if` meets its contract: one return for each choice.
--- Written by tools/prove.py; no answer was changed by hand. Assumes nothing.
+-- First written by tools/prove.py. Assumes nothing.
 use Rattle.registers.specs.Csr.{userSyncEndedIfOf}
 use borrow.Author.Needs.{needs}
 use Rattle.registers.proofs.csr.Csr.user_sync_ended_if.Statement.{statement}

@@ -1,5 +1,5 @@
 -- `sequencer::main_sequencer::MainSequencer::aged` meets its contract: at Idle and at the limit the fields stay as they were, else the age is one more.
--- Written by tools/prove.py; no answer was changed by hand. Assumes nothing.
+-- First written by tools/prove.py. Assumes nothing.
 use Rattle.sequencer.specs.MainSequencer.{agedOf}
 use borrow.Author.Tests.{le-ltb, lt-ltb}
 use borrow.Author.Needs.{needs}

@@ -1,5 +1,5 @@
 -- `sequencer::main_sequencer::MainSequencer::failed` meets its contract: the literal is the cleared step, field by field.
--- Written by tools/prove.py; no answer was changed by hand. Assumes nothing.
+-- First written by tools/prove.py. Assumes nothing.
 use borrow.Author.Needs.{needs}
 use Rattle.sequencer.proofs.main_sequencer.MainSequencer.failed.Statement.{statement}
 use Rattle.sequencer.proofs.main_sequencer.MainSequencer.failed.Tie as tie

@@ -1,5 +1,5 @@
 -- `sequencer::main_sequencer::MainSequencer::failed_late` meets its contract: the marked sequencer at Front, with the late mark set in the step.
--- Written by tools/prove.py; no answer was changed by hand. Assumes nothing.
+-- First written by tools/prove.py. Assumes nothing.
 use borrow.Author.Needs.{needs}
 use Rattle.sequencer.proofs.main_sequencer.MainSequencer.failed_late.Statement.{statement}
 use Rattle.sequencer.proofs.main_sequencer.MainSequencer.failed_late.Tie as tie

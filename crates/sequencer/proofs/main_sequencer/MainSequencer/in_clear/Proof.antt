@@ -1,5 +1,5 @@
 -- `sequencer::main_sequencer::MainSequencer::in_clear` meets its contract: c above 0, else the Front test: one return for each move.
--- Written by tools/prove.py; no answer was changed by hand. Assumes nothing.
+-- First written by tools/prove.py. Assumes nothing.
 use borrow.Author.Tests.{le-ltb, lt-ltb}
 use borrow.Author.Needs.{needs}
 use Rattle.sequencer.proofs.main_sequencer.MainSequencer.in_clear.Statement.{statement}

@@ -1,5 +1,5 @@
 -- `sequencer::main_sequencer::MainSequencer::in_delay` meets its contract: the lines that are due are raised, and both up choose between the two returns.
--- Written by tools/prove.py; no answer was changed by hand. Assumes nothing.
+-- First written by tools/prove.py. Assumes nothing.
 use borrow.Author.Needs.{needs}
 use Rattle.sequencer.proofs.main_sequencer.MainSequencer.in_delay.Statement.{statement}
 use Rattle.sequencer.proofs.main_sequencer.MainSequencer.in_delay.Tie as tie

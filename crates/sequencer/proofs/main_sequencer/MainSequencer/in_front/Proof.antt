@@ -1,5 +1,5 @@
 -- `sequencer::main_sequencer::MainSequencer::in_front` meets its contract: one return for each move; the word is what its call ensures.
--- Written by tools/prove.py; no answer was changed by hand. Assumes nothing.
+-- First written by tools/prove.py. Assumes nothing.
 use borrow.Author.Needs.{needs}
 use Rattle.sequencer.proofs.main_sequencer.MainSequencer.in_front.Statement.{statement}
 use Rattle.sequencer.proofs.main_sequencer.MainSequencer.in_front.Tie as tie

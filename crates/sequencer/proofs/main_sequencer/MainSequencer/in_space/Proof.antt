@@ -1,5 +1,5 @@
 -- `sequencer::main_sequencer::MainSequencer::in_space` meets its contract: one return for each move.
--- Written by tools/prove.py; no answer was changed by hand. Assumes nothing.
+-- First written by tools/prove.py. Assumes nothing.
 use borrow.Author.Needs.{needs}
 use Rattle.sequencer.proofs.main_sequencer.MainSequencer.in_space.Statement.{statement}
 use Rattle.sequencer.proofs.main_sequencer.MainSequencer.in_space.Tie as tie

@@ -1,5 +1,5 @@
 -- `sequencer::main_sequencer::MainSequencer::is_well_formed` meets its contract: its three tests are those of the definition, one for one.
--- Written by tools/prove.py; no answer was changed by hand. Assumes nothing.
+-- First written by tools/prove.py. Assumes nothing.
 use Rattle.sequencer.specs.MainSequencer.{isWellFormedOf}
 use borrow.Author.Needs.{needs}
 use Rattle.sequencer.proofs.main_sequencer.MainSequencer.is_well_formed.Statement.{

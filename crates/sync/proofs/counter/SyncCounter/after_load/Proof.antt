@@ -1,5 +1,5 @@
 -- `sync::counter::SyncCounter::after_load` meets its contract: a count that reaches the interval stays; below it, one more fits 16 bits.
--- Written by tools/prove.py; no answer was changed by hand. Assumes nothing.
+-- First written by tools/prove.py. Assumes nothing.
 use Rattle.sync.specs.SyncCounter.{afterLoadOf}
 use borrow.Author.Tests.{le-leb, lt-leb}
 use borrow.Author.Needs.{needs}
