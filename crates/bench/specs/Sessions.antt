@@ -1,7 +1,7 @@
 -- A session: asks to a fresh module over one memory, and what is looked at in its replies.
 --     document 01   "Console program", the start; "When a call is declined" and "The tick", the answers
---     answered      the machine that is asked
---     repliesTo     its replies to a session; SessionsLaws says that they are those of the log of a run
+--     answered      the machine that is asked: askOf, line by line, which `claims` says in one statement
+--     repliesTo     its replies to a session; SessionsLaws says that askOf's are those of the log of a run
 --     lost, rejected, passed, cleared, loaded, finished1, shown1   what is looked at in a tick
 --     readOut, decline   and in the replies to other asks
 -- Own rules of 01 used here: none. Decisions: none. Left out: nothing.

@@ -30,6 +30,7 @@ use Rattle.calls.specs.Refusals.{refusalsOf, firstOf, statusBit, Leaves}
 use Rattle.account.specs.Demand3.{Demand3, wordsOf}
 use Rattle.reach.specs.NeverSpoiled.{OfType, KeepsUnspoiled, NeverSpoiled}
 use Rattle.bench.specs.Bench.{examples, allRight}
+use Rattle.bench.specs.Sessions.{answered}
 use Rattle.text.specs.Text.{newline}
 use Rattle.reader.specs.Reader.{linesOf}
 use Rattle.script.specs.Script.{Session, lineAnswer, answersFrom}
@@ -117,3 +118,7 @@ EveryCallKeepsUnspoiled = (c : Call) (s : Supervisor) → OfType s → isSpoiled
 -- [Bench.1]–[Bench.9] The bench examples P1–P9, as one statement over their table.
 abbrev pub BenchExamples : Type 0
 BenchExamples = allRight examples ≡ true
+
+-- [Lab.8] The machine that the examples ask is that of the calls.
+abbrev pub ExamplesAskTheMachine : Type 0
+ExamplesAskTheMachine = (a : Ask) (memory : List ℕ) (s : Supervisor) → answered a memory s ≡ askOf a memory s
