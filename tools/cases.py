@@ -10,7 +10,7 @@ that crates/cases/src/main.rt makes; a line `--` follows the answers of each.
 import subprocess
 import sys
 
-from page import TOP, asks_check
+from page import TOP, asks_check, need
 
 EXPECTED = TOP / "crates" / "cases" / "stdout"
 MODEL = TOP / "target" / "reference" / "release" / "console"
@@ -29,8 +29,7 @@ def model(script):
 
 
 def build_model():
-    if subprocess.run([TOP / "tools" / "need", "cargo"]).returncode:
-        sys.exit(2)
+    need("cargo")
     subprocess.run(BUILD, cwd=TOP / "reference", check=True)
 
 
@@ -39,7 +38,7 @@ def main():
     build_model()
     answers = [model(script) for script in scripts()]
     expected = b"".join(answer + b"--\n" for answer in answers)
-    same = EXPECTED.read_bytes() == expected
+    same = EXPECTED.exists() and EXPECTED.read_bytes() == expected
     if not check:
         EXPECTED.write_bytes(expected)
     says = "as the model answers" if same or not check else "crates/cases/stdout is not what the model answers"

@@ -63,7 +63,7 @@ def letter_fault(letter):
     if letter.upper() in names.FORMS:
         return f"lower-case letter `{letter}`"
     comment = "; there are no comments" if letter[:1] in ("#", "/", ";", "-") else ""
-    return "it starts with none of the letters W, R, M, V, T" + comment
+    return "its first field is none of the letters W, R, M, V, T" + comment
 
 
 def fields_fault(letter, given):
@@ -74,7 +74,7 @@ def fields_fault(letter, given):
     if len(given) != len(form):
         wants = ", ".join(f"{name} ({count} digits)" for name, count in form)
         return [f"fields: {len(given)}, where {len(form)} are asked: {wants}"]
-    bad = [(name, count, field) for (name, count), field in zip(form, given) if not re.fullmatch("[0-9A-F]{%d}" % count, field)]
+    bad = [(name, count, field) for (name, count), field in zip(form, given) if not names.has_digits(field, count)]
     return [digits_fault(*fault) for fault in bad]
 
 

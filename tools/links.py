@@ -17,17 +17,21 @@ def anchors(path):
     return {re.sub(r"[^\w -]", "", head.lower()).replace(" ", "-") for head in heads}
 
 
+def faults_of(page, text):
+    """The links of a page's text that lead nowhere."""
+    faults = []
+    for name, anchor in LINK.findall(text):
+        path = (page.parent / name).resolve() if name else page
+        if not path.exists() or (anchor and anchor not in anchors(path)):
+            faults.append(f"{page.relative_to(TOP)}: {name}{'#' + anchor if anchor else ''} is not there")
+    return faults
+
+
 def main():
     asks_check(__doc__)
     pages = [TOP / "README.md", TOP / "CONTRIBUTING.md"] + sorted((TOP / "docs").glob("*.md"))
-    faults, count = [], 0
-    for page in pages:
-        for name, anchor in LINK.findall(read(page)):
-            count += 1
-            path = (page.parent / name).resolve() if name else page
-            if not path.exists() or (anchor and anchor not in anchors(path)):
-                faults.append(f"{page.relative_to(TOP)}: {name}{'#' + anchor if anchor else ''} is not there")
-    print("\n".join(faults) if faults else f"{count} links lead somewhere")
+    faults = [fault for page in pages for fault in faults_of(page, read(page))]
+    print("\n".join(faults) if faults else f"{len(pages)} pages, every link leads somewhere")
     return 1 if faults else 0
 
 

@@ -1,4 +1,5 @@
 """The names of document 01 that the tools print: registers and their bits, lines, masks, main's states, declines."""
+import re
 
 # [Registers.1]
 REGISTERS = (
@@ -67,6 +68,11 @@ DECLINES = {
     6: "a line of other form",
 }
 ACTIVE_SETS = {"W": 19, "M": 19, "V": 20}
+
+
+def has_digits(field, count):
+    """[Console.3]"""
+    return re.fullmatch("[0-9A-F]{%d}" % count, field) is not None
 
 
 def bits(number):

@@ -1,6 +1,7 @@
 """What the tools share: the repository's folder, a tool's words, and a page that a tool writes or checks."""
 import argparse
 import pathlib
+import subprocess
 import sys
 
 if sys.version_info < (3, 9):
@@ -9,7 +10,8 @@ if sys.version_info < (3, 9):
 
 TOP = pathlib.Path(__file__).resolve().parent.parent
 for stream in (sys.stdout, sys.stderr):
-    stream.reconfigure(encoding="utf-8")
+    if stream is not None:
+        stream.reconfigure(encoding="utf-8", errors="backslashreplace")
 
 
 def read(path):
@@ -18,6 +20,12 @@ def read(path):
 
 def write(path, text):
     path.write_text(text, encoding="utf-8")
+
+
+def need(*programs):
+    """Leaves with exit 2 where a program is missing, which tools/need names."""
+    if subprocess.run([TOP / "tools" / "need", *programs]).returncode:
+        sys.exit(2)
 
 
 def words(doc):

@@ -16,7 +16,7 @@ import subprocess
 import sys
 import tempfile
 
-from page import TOP, read, words, write
+from page import TOP, need, read, words, write
 
 WIDTH = 110
 # a test on numbers, by whether it was taken and whether it is strict: the law that turns it into the definition's Bool
@@ -57,7 +57,8 @@ class Crate:
 
 
 def rt(*asked):
-    return subprocess.run(["rt", *asked], cwd=TOP, capture_output=True, text=True, env=dict(os.environ, RT_CUT="0"))
+    environment = dict(os.environ, RT_CUT="0")
+    return subprocess.run(["rt", *asked], cwd=TOP, capture_output=True, encoding="utf-8", env=environment)
 
 
 def write_printed(crate):
@@ -203,8 +204,7 @@ def main():
     name = parser.parse_args().crate
     if not (TOP / "crates" / name / "src").is_dir():
         parser.error(f"{name}: no such crate")
-    if subprocess.run([TOP / "tools" / "need", "rt"]).returncode:
-        return 2
+    need("rt")
     crate = Crate(name)
     wrote = write_printed(crate)
     if not wrote:

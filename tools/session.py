@@ -81,9 +81,7 @@ def fields_of(text):
     """A line's letter and numbers; ("", []) for a line of other form. [Console.3]"""
     letter, *given = text.split("\t")
     form = names.FORMS.get(letter, ())
-    fits = len(form) == len(given) and all(
-        re.fullmatch("[0-9A-F]{%d}" % count, field) for field, (_, count) in zip(given, form)
-    )
+    fits = len(form) == len(given) and all(names.has_digits(field, count) for field, (_, count) in zip(given, form))
     return (letter, [int(field, 16) for field in given]) if form and fits else ("", [])
 
 
@@ -106,9 +104,11 @@ def first_line_faults(first):
     if not first:
         return faults + ["it is empty"]
     if first.endswith(names.FIRST):
-        return faults + [f"other bytes stand before it: {shown(first[:-len(names.FIRST)])}"]
-    if first.split() == names.FIRST.split():
-        return faults + ["it has spaces, where one tab is asked" if b" " in first else "it has more than one tab"]
+        return faults + [f"other bytes stand before it: `{shown(first[:-len(names.FIRST)])}`"]
+    if re.fullmatch(rb"[ \t]*supervisor[ \t]+1[ \t]*", first):
+        between = first.strip(b" \t") != names.FIRST
+        blanks = "it has spaces, where one tab is asked" if b" " in first else "it has more than one tab"
+        return faults + [blanks if between else "blanks stand behind it"]
     if first.decode("latin-1").split("\t")[0] in names.FORMS:
         return faults + [f"it is missing: the script starts with the call `{shown(first)}`"]
     return faults + [f"it is `{shown(first)}`"]

@@ -47,8 +47,8 @@ def definitions():
             total = [a + b for a, b in zip(total, size)]
             rows += f"| {folder.parent.name}/specs/{path.stem} | {size[0]} | {size[1]} | {states(path)} |\n"
     return (
-        f"{HEAD}\nAll lines, and those without blanks and comments. A file named after its neighbour and `Fields` has one line for "
-        "each field that\na definition changes.\n\n| File | Lines | Bare | Holds |\n|---|---|---|---|\n"
+        f"{HEAD}\nAll lines, and those without blanks and comments. A file named after its neighbour and `Fields` has one "
+        "line for each field that\na definition changes.\n\n| File | Lines | Bare | Holds |\n|---|---|---|---|\n"
         f"{rows}| all | {total[0]} | {total[1]} | |\n"
     )
 

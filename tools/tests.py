@@ -12,7 +12,7 @@ import unittest
 import session
 from page import TOP
 from sentences import line_words
-from tests_commands import Console, Tags, Words, tool  # noqa: F401  the classes are run here too
+from tests_commands import Checks, Console, Tags, Words, tool  # noqa: F401  the classes are run here too
 from tests_drawings import Diagrams, Timing, Wave  # noqa: F401
 
 TICK = "T 000 00 00000000"
@@ -132,8 +132,8 @@ class Declines(unittest.TestCase):
             ("\r", "a carriage return at its end (CRLF); an empty line"),
             ("W 00 00000001", "spaces, where tabs are asked"), ("w\t00\t00000001", "lower-case letter `w`"),
             ("t 000 00 00000000", "lower-case letter `t`"),
-            ("X\t00", "it starts with none of the letters W, R, M, V, T"),
-            ("# a", "it starts with none of the letters W, R, M, V, T; there are no comments"),
+            ("X\t00", "its first field is none of the letters W, R, M, V, T"),
+            ("# a", "its first field is none of the letters W, R, M, V, T; there are no comments"),
             ("R\t0", "register: 1 digit, where 2 are asked"), ("R\t0a", "register: lower-case digits"),
             ("R\t0G", "register: not hexadecimal"), ("R\t00\t", "a tab at its end"),
             ("M\t001", "fields: 1, where 2 are asked: place (3 digits), word (4 digits)"),
@@ -164,7 +164,8 @@ class Refusals(unittest.TestCase):
         self.refused(b"R\t00\n", f"{first}; it is missing: the script starts with the call `R 00`")
         self.refused(b"\nsupervisor\t1\n", f"{first}; it is empty")
         self.refused(b"supervisor\t2\n", f"{first}; it is `supervisor 2`")
-        self.refused(b"\xef\xbb\xbfsupervisor\t1\n", f"{first}; other bytes stand before it: \\xef\\xbb\\xbf")
+        self.refused(b"\xef\xbb\xbfsupervisor\t1\n", f"{first}; other bytes stand before it: `\\xef\\xbb\\xbf`")
+        self.refused(b"supervisor\t1 \n", f"{first}; blanks stand behind it")
         longest = b"supervisor\t1\n" + b"R\t00\n" * 13104 + b"\n\n\n"
         self.assertEqual(len(longest), 65536)
         self.assertEqual(session.run(longest).refusal, "")
@@ -217,7 +218,8 @@ class States(unittest.TestCase):
         answers = session.printed(script)
         for number, old, new in [(11, "e07", "-"), (11, "e07", "g07"), (11, "e07", "e27"), (11, "e07", "e17"), (7, "-", "c"),
                                  (9, " - - - - - ", " - 07 - - - "), (12, "07 07 07 07", "06 07 07 07"), (14, "07", "08"),
-                                 (13, " 000 0000", " 001 0201"), (13, "000 000 000 0000", "001 000 000 0000"), (2, "ok", "no 6"), (6, "000", "0000")]:
+                                 (13, " 000 0000", " 001 0201"), (13, "000 000 000 0000", "001 000 000 0000"),
+                                 (2, "ok", "no 6"), (6, "000", "0000")]:
             self.misfits(script, answers, number, old, new)
         self.assertRaises(session.Misfit, session.run, script, answers[:-1])
 

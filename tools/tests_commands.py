@@ -1,13 +1,17 @@
 """Tests of the commands: what each makes of its words, the console's exit status, and what a tag of trace.py speaks of. Run by
 tests.py."""
+import contextlib
+import io
 import pathlib
 import subprocess
 import sys
 import tempfile
 import unittest
 
+import impostors
+import links
 import trace
-from page import TOP
+from page import TOP, keep
 
 FIRST = TOP / "examples" / "first.txt"
 SCRIPTS = {"explain": [FIRST], "wave": [FIRST]}
@@ -31,14 +35,19 @@ class Words(unittest.TestCase):
         self.assertIn("usage: ", done.stderr, done.args)
 
     def test_tools(self):
-        before = ran("git", "status", "--porcelain").stdout
+        before = self.stamps()
         for name in [*PAGES, "check", "explain", "prove.py", "wave"]:
             with tempfile.TemporaryDirectory() as folder:
                 for extra in (["--chek"], ["a", "b", "c"], ["--che"]):
                     self.refused(tool(name, *SCRIPTS.get(name, []), *extra, folder=folder))
                 self.assertEqual(list(pathlib.Path(folder).iterdir()), [], name)
                 self.assertIn("usage: ", tool(name, "--help", folder=folder).stdout)
-        self.assertEqual(ran("git", "status", "--porcelain").stdout, before)
+        self.assertEqual(self.stamps(), before)
+
+    def stamps(self):
+        """When each file that a tool may write was written."""
+        kept = [*TOP.glob("docs/*"), *TOP.glob("examples/answers/*"), TOP / "crates" / "cases" / "stdout"]
+        return {path: path.stat().st_mtime_ns for path in kept}
 
     def test_missing_file(self):
         for name in ("explain", "wave"):
@@ -65,6 +74,43 @@ class Words(unittest.TestCase):
         self.assertEqual((done.returncode, done.stdout), (2, ""))
         self.assertIn("missing: no_such_program", done.stderr)
         self.assertNotIn("missing: sh", done.stderr)
+
+
+class Checks(unittest.TestCase):
+    """What --check refuses."""
+
+    def test_page(self):
+        with tempfile.TemporaryDirectory(dir=TOP / "target") as folder:
+            page = pathlib.Path(folder) / "page.md"
+            with contextlib.redirect_stdout(io.StringIO()) as said:
+                self.assertEqual([keep(page, "true", True), page.exists()], [1, False])
+                self.assertEqual([keep(page, "true", False), page.read_text()], [0, "true"])
+                self.assertEqual([keep(page, "other", True), page.read_text()], [1, "true"])
+                self.assertEqual(keep(page, "true", True), 0)
+            self.assertEqual(said.getvalue().count("is not true: run tools/"), 2)
+
+    def test_links(self):
+        page = TOP / "docs" / "MANUAL.md"
+        said = "[a](REGISTERS.md) [b](#declines) [c](no_such.md) [d](REGISTERS.md#no-such) [e](https://example.org)"
+        self.assertEqual(links.faults_of(page, said), ["docs/MANUAL.md: no_such.md is not there",
+                                                       "docs/MANUAL.md: REGISTERS.md#no-such is not there"])
+
+    def test_edits(self):
+        listed = [("bits/right", "")]
+        self.assertIn("bits/no_such_edit", impostors.missing("`bits/right` `bits/no_such_edit` `bits/specs`", listed))
+        self.assertNotIn("bits/right", impostors.missing("`bits/right`", listed))
+        self.assertNotIn("bits/specs", impostors.missing("`bits/specs`", listed))
+
+    def test_tags(self):
+        sentences = trace.Sentences()
+        self.assertEqual(sentences.cited("[Main.1] [Spoiled.1a]–[Spoiled.1c] [Declines.1]", "x"),
+                         ["Main.1", "Spoiled.1a", "Spoiled.1b", "Spoiled.1c", "Declines.1a", "Declines.1b"])
+        sentences.see_rows("[Open: M2] DECISIONS B1", "x")
+        self.assertEqual(sentences.faults, [])
+        sentences.cited("[Main.99]", "x")
+        sentences.see_rows("[Open: Z9] DECISIONS Q7", "x")
+        self.assertEqual(sentences.faults, ["x: no such sentence: [Main.99]", "x: no such row of docs/DECISIONS.md: Z9",
+                                            "x: no such row of docs/DECISIONS.md: Q7"])
 
 
 class Console(unittest.TestCase):

@@ -136,7 +136,12 @@ class Wave(unittest.TestCase):
         with tempfile.TemporaryDirectory() as folder:
             script = pathlib.Path(folder) / "script.txt"
             script.write_bytes(EXAMPLES[0].read_bytes())
-            self.assertEqual(tool("wave", script, script).returncode, 2)
+            before = script.read_bytes()
+            other = pathlib.Path(folder) / "other.txt"
+            other.write_bytes(before)
+            for file in (script, other):
+                self.assertEqual(tool("wave", script, file).returncode, 2)
+                self.assertEqual(file.read_bytes(), before)
             self.assertEqual(script.read_bytes(), EXAMPLES[0].read_bytes())
 
 

@@ -2,6 +2,8 @@
 string signal."""
 import typing
 
+FIRST = "$version tools/wave $end"
+
 
 class Signal(typing.NamedTuple):
     scope: str
@@ -21,7 +23,7 @@ def key(number):
 
 
 def header(comment, signals):
-    yield "$version tools/wave $end"
+    yield FIRST
     yield f"$comment\n{comment}\n$end"
     yield "$timescale 1 ns $end"
     scope = None
