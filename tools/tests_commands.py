@@ -107,9 +107,9 @@ class Checks(unittest.TestCase):
                          ["Main.1", "Spoiled.1a", "Spoiled.1b", "Spoiled.1c", "Declines.1a", "Declines.1b"])
         sentences.see_rows("[Open: M2] DECISIONS B1", "x")
         self.assertEqual(sentences.faults, [])
-        sentences.cited("[Main.99]", "x")
+        sentences.cited(f"[Main.{99}]", "x")
         sentences.see_rows("[Open: Z9] DECISIONS Q7", "x")
-        self.assertEqual(sentences.faults, ["x: no such sentence: [Main.99]", "x: no such row of docs/DECISIONS.md: Z9",
+        self.assertEqual(sentences.faults, [f"x: no such sentence: [Main.{99}]", "x: no such row of docs/DECISIONS.md: Z9",
                                             "x: no such row of docs/DECISIONS.md: Q7"])
 
 
