@@ -1,7 +1,8 @@
 -- A session: asks to a fresh module over one memory, and what is looked at in its replies.
 --     document 01   "Console program", the start; "When a call is declined" and "The tick", the answers
---     answered      the machine that is asked: askOf, line by line, which `claims` says in one statement
---     repliesTo     its replies to a session; SessionsLaws says that askOf's are those of the log of a run
+--     answered      the machine that is asked: askOf, line by line
+--     repliesTo     its replies to a session
+--     repliesLogged   the replies that a bystander logs of the same asks in a run; `claims` says that they are the same
 --     lost, rejected, passed, cleared, loaded, finished1, shown1   what is looked at in a tick
 --     readOut, decline   and in the replies to other asks
 -- Own rules of 01 used here: none. Decisions: none. Left out: nothing.
@@ -18,7 +19,7 @@ use Rattle.supervisor.specs.declared.Supervisor.{Supervisor}
 use Rattle.supervisor.specs.declared.Answer.{Answer}
 use Rattle.calls.specs.Answers.{Reply, declined, done, value, ticked, declineOrZero}
 use Rattle.calls.specs.Runs.{Ask, writeRegister, readRegister, writeMemory, readMemory, tick}
-use Rattle.calls.specs.Runs.{Result, askOf, memoryAfter, zeroMemory}
+use Rattle.calls.specs.Runs.{Result, askOf, memoryAfter, zeroMemory, Call, Entry, logOf}
 
 -- ---- asks over one memory
 
@@ -43,6 +44,21 @@ repliesBy machine (a ∷ rest) memory s =
 
 abbrev pub repliesTo : List Ask → List Reply
 repliesTo asks = repliesBy answered asks zeroMemory fresh
+
+-- ---- the same asks as calls of a run
+
+-- each is lent the memory that the call before left
+abbrev pub callsOf : List Ask → List ℕ → Supervisor → List Call
+callsOf [] memory s = []
+callsOf (a ∷ rest) memory s =
+    record { ask = a; memory = memory } ∷ callsOf rest (memoryAfter a memory s) (askOf a memory s .next)
+
+abbrev pub repliesIn : List Entry → List Reply
+repliesIn [] = []
+repliesIn (e ∷ es) = e .reply ∷ repliesIn es
+
+abbrev pub repliesLogged : List Ask → List ℕ → Supervisor → List Reply
+repliesLogged asks memory s = repliesIn (logOf (callsOf asks memory s) s)
 
 -- ---- what is looked at in a reply: a number for each tick carried out, so that a declined one is missed
 

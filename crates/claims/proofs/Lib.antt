@@ -1,3 +1,4 @@
 -- Each claim, proved. Assumes nothing.
+pub mod ExamplesLogged
 pub mod Proved
 pub mod PartsProved

@@ -1,17 +1,18 @@
 -- Each claim of specs/Claims.antt, proved in one line by the theorem that it restates.
 -- Assumes nothing.
-use mathlib.Core.Path.{refl}
 use Rattle.branches.specs.Readout.{moduleBranches}
-use Rattle.calls.specs.Runs.{writeRegister, readRegister, writeMemory, readMemory, tick}
+use Rattle.calls.specs.Runs.{zeroMemory}
 use Rattle.calls.proofs.CallsLaws.{declines-in-order, refusal-leaves, refusal-leaves-memory, spoiled-declines-all}
 use Rattle.account.proofs.Theorem.{every-run-balances, any-two-branches}
 use Rattle.reach.proofs.Never.{call-keeps-unspoiled, never-spoiled}
+use Rattle.bench.specs.Sessions.{fresh}
 use Rattle.bench.proofs.Examples.{bench-examples}
+use Rattle.claims.proofs.ExamplesLogged.{answers-are-logged}
 use Rattle.reader.proofs.ReaderLaws.{lines-end, lines-append}
 use Rattle.script.proofs.ScriptLaws.{answers-so-far, answer-is-line, answers-count}
 use Rattle.claims.specs.Claims.{RefusesInOrder, RefusalLeavesRecord, RefusalLeavesMemory, SpoiledRecordRefuses}
 use Rattle.claims.specs.Claims.{EveryRunBalances, EveryRunBalancesAtAnySize, AnyTwoBranchesAgree, NoRunIsSpoiled}
-use Rattle.claims.specs.Claims.{EveryCallKeepsUnspoiled, BenchExamples, ExamplesAskTheMachine, LastNewlineMayLack}
+use Rattle.claims.specs.Claims.{EveryCallKeepsUnspoiled, BenchExamples, ExamplesAreLogged, LastNewlineMayLack}
 use Rattle.claims.specs.Claims.{AnswersDoNotLookAhead, LinesDoNotLookAhead, EveryAnswerIsOneLine, OneAnswerEachLine}
 
 pub refuses-in-order : RefusesInOrder
@@ -59,10 +60,5 @@ every-call-keeps-unspoiled = call-keeps-unspoiled
 pub bench : BenchExamples
 bench = bench-examples
 
--- a line for each ask, as in its definition
-pub examples-ask-the-machine : ExamplesAskTheMachine
-examples-ask-the-machine (writeRegister n v) memory s = refl
-examples-ask-the-machine (readRegister n) memory s = refl
-examples-ask-the-machine (writeMemory p w) memory s = refl
-examples-ask-the-machine (readMemory p) memory s = refl
-examples-ask-the-machine (tick x) memory s = refl
+pub examples-are-logged : ExamplesAreLogged
+examples-are-logged asks = answers-are-logged asks zeroMemory fresh

@@ -25,12 +25,12 @@ use Rattle.branches.specs.Readout.{moduleBranches}
 use Rattle.supervisor.specs.Supervisor.{isSpoiledOf}
 use Rattle.supervisor.specs.declared.Supervisor.{Supervisor}
 use Rattle.calls.specs.Answers.{declined, declineOrZero}
-use Rattle.calls.specs.Runs.{Ask, Call, askOf, memoryAfter}
+use Rattle.calls.specs.Runs.{Ask, Call, askOf, memoryAfter, zeroMemory}
 use Rattle.calls.specs.Refusals.{refusalsOf, firstOf, statusBit, Leaves}
 use Rattle.account.specs.Demand3.{Demand3, wordsOf}
 use Rattle.reach.specs.NeverSpoiled.{OfType, KeepsUnspoiled, NeverSpoiled}
 use Rattle.bench.specs.Bench.{examples, allRight}
-use Rattle.bench.specs.Sessions.{answered}
+use Rattle.bench.specs.Sessions.{fresh, repliesTo, repliesLogged}
 use Rattle.text.specs.Text.{newline}
 use Rattle.reader.specs.Reader.{linesOf}
 use Rattle.script.specs.Script.{Session, lineAnswer, answersFrom}
@@ -119,6 +119,6 @@ EveryCallKeepsUnspoiled = (c : Call) (s : Supervisor) → OfType s → isSpoiled
 abbrev pub BenchExamples : Type 0
 BenchExamples = allRight examples ≡ true
 
--- [Lab.8] The machine that the examples ask is that of the calls.
-abbrev pub ExamplesAskTheMachine : Type 0
-ExamplesAskTheMachine = (a : Ask) (memory : List ℕ) (s : Supervisor) → answered a memory s ≡ askOf a memory s
+-- [Lab.8] What an example looks at are the replies that a bystander logs of a run of its calls.
+abbrev pub ExamplesAreLogged : Type 0
+ExamplesAreLogged = (asks : List Ask) → repliesTo asks ≡ repliesLogged asks zeroMemory fresh

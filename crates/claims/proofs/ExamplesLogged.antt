@@ -1,0 +1,32 @@
+-- What the examples of bench look at are the replies that a bystander logs. It stands here, and not in bench, so that an edit
+-- of bench that bends the machine it asks must be refused by an example.
+--     answered-is-asked     the machine that is asked is that of the calls, a line for each ask
+--     answers-are-logged    so its replies are those of the log
+-- Assumes nothing.
+use Prim.Native.Nat.{ℕ}
+use mathlib.Core.Path.{_≡_, refl, ap, _∙_}
+use mathlib.Core.List.{List, [], _∷_}
+use Rattle.supervisor.specs.declared.Supervisor.{Supervisor}
+use Rattle.calls.specs.Answers.{Reply}
+use Rattle.calls.specs.Runs.{Ask, writeRegister, readRegister, writeMemory, readMemory, tick}
+use Rattle.calls.specs.Runs.{Result, askOf, memoryAfter}
+use Rattle.bench.specs.Sessions.{answered, repliesBy, repliesLogged}
+use Rattle.bench.proofs.SessionsLaws.{replies-are-logged}
+
+answered-is-asked : (a : Ask) (memory : List ℕ) (s : Supervisor) → answered a memory s ≡ askOf a memory s
+answered-is-asked (writeRegister n v) memory s = refl
+answered-is-asked (readRegister n) memory s = refl
+answered-is-asked (writeMemory p w) memory s = refl
+answered-is-asked (readMemory p) memory s = refl
+answered-is-asked (tick x) memory s = refl
+
+replies-alike : (asks : List Ask) (memory : List ℕ) (s : Supervisor)
+    → repliesBy answered asks memory s ≡ repliesBy askOf asks memory s
+replies-alike [] memory s = refl
+replies-alike (a ∷ rest) memory s =
+    ap (λ (r : Result). r .reply ∷ repliesBy answered rest (memoryAfter a memory s) (r .next)) (answered-is-asked a memory s)
+    ∙ ap (λ (l : List Reply). askOf a memory s .reply ∷ l) (replies-alike rest (memoryAfter a memory s) (askOf a memory s .next))
+
+pub answers-are-logged : (asks : List Ask) (memory : List ℕ) (s : Supervisor)
+    → repliesBy answered asks memory s ≡ repliesLogged asks memory s
+answers-are-logged asks memory s = replies-alike asks memory s ∙ replies-are-logged asks memory s
