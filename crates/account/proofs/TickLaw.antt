@@ -48,16 +48,23 @@ outcome-loads (Tag w) = refl
 module _ (memory : List ℕ) (x : Inputs) (s : Supervisor) where
   -- what the core sees of the branches
   abbrev room : Bool
-  room = readout.hasRoomOf (csr.locksRoc (s .core .csr)) (csr.locksBranch4 (s .core .csr)) (s .readout)
+  room = readout.hasRoomOf (csr.locksRoc (s .core .csr)) (csr.locksBranch4 (s .core .csr)) (s .readout .branches)
 
   abbrev empty : Bool
-  empty = readout.isEmptyOf (s .readout)
+  empty = readout.isEmptyOf (s .readout .branches)
 
   abbrev step : CoreStep
   step = core.stepOf room empty x memory (s .core)
 
   abbrev answer : Answer
   answer = tickedOf memory x s .answer
+
+  -- the lines of each branch
+  abbrev acks : ℕ → ℕ
+  acks = readout.linesAt (x .acks)
+
+  abbrev enabled : ℕ → ℕ
+  enabled = readout.linesAt (s .readout .roc)
 
   -- [Account.10] [Account.11] with the control that the account keeps
   tick-adds-up : (a : Account) → a .control ≡ s .core .control .word → (i : ℕ) → i < inputs → AddsUp (a .sums) i
@@ -129,31 +136,31 @@ module _ (memory : List ℕ) (x : Inputs) (s : Supervisor) where
         → Ordering (branchAt (s .readout .branches) k) finished words
         → Ordering (branchAt (tickedOf memory x s .next .readout .branches) k)
         (finished ++ wordsIn (getD (answer .sides) k noSide .finished)) (words ++ outcomeWords (answer .outcome))
-    unfolding tickedOf joinedOf coreStepOf readoutStepOf
+    unfolding tickedOf joinedOf coreStepOf readoutStepOf readout.stepOf
     tick-keeps-ordering k h finished words v =
-        let r = s .readout in
+        let bs = s .readout .branches in
         let load = loadOf (step .outcome) in
         let eight = core.allowsEightOf (s .core) in
         let fine = unspoiled-is-well-formed s clean in
-        let after = branchAt (readout.stepOf (x .acks) load r .next .branches) k in
-        let done = wordsIn (getD (readout.stepOf (x .acks) load r .sides) k noSide .finished) in
-        let step-order = branches.step-keeps-order (x .acks) load r k h eight fine load-is-six-bit load-has-room in
+        let after = branchAt (readout.branchesAfterOf acks enabled load bs) k in
+        let done = wordsIn (getD (readout.sidesAfterOf acks enabled load bs) k noSide .finished) in
+        let step-order = branches.step-keeps-order acks enabled load bs k h eight fine load-is-six-bit load-has-room in
         record {
           order =
               append-assoc finished done (held after)
               ∙ ap (λ (l : List ℕ). finished ++ l) step-order
-              ∙ sym (append-assoc finished (held (branchAt (r .branches) k)) (wordsIn load))
+              ∙ sym (append-assoc finished (held (branchAt bs k)) (wordsIn load))
               ∙ rw (v .order, load-words (step .outcome));
           eight =
               held-at-most-eight after
-              (branches.step-keeps-well-formed (x .acks) load r k h eight fine load-is-six-bit);
+              (branches.step-keeps-well-formed acks enabled load bs k h eight fine load-is-six-bit);
         }
 
     -- ---- all of it
 
     pub ticked-keeps-invariant : {branches : ℕ} (a : Account) → Invariant branches s a
         → Invariant branches (tickedOf memory x s .next) (afterTick x answer a)
-    unfolding tickedOf joinedOf coreStepOf readoutStepOf afterTick
+    unfolding tickedOf joinedOf coreStepOf readoutStepOf readout.stepOf afterTick
     ticked-keeps-invariant a v =
         record {
           control = v .control ∙ ap (λ c. c .word) (sym (laws.step-keeps-control room empty x memory (s .core)));
@@ -162,6 +169,6 @@ module _ (memory : List ℕ) (x : Inputs) (s : Supervisor) where
           events = tick-balances-events (a .events) (v .decides) (v .events);
           decides = tick-decides (a .events) (v .decides);
           words = tick-counts-words a (v .words);
-          number = branches.step-keeps-length (x .acks) (loadOf (step .outcome)) (s .readout) ∙ v .number;
+          number = branches.step-keeps-length acks enabled (loadOf (step .outcome)) (s .readout .branches) ∙ v .number;
           ordering = λ k h. tick-keeps-ordering k (rw (v .number) h) (a .finished k) (a .words) (v .ordering k h);
         }

@@ -8,7 +8,7 @@ use mathlib.Core.Bool.{Bool, true, false, cond}
 use mathlib.Core.List.{[]}
 use native.Mathlib.Omega.{arith}
 use lib.Dec.{eqb, lit≤}
-use lib.ListN.{getD, replicate}
+use lib.ListN.{length, getD, replicate}
 use borrow.Author.Tests.{eqb-true, eqb-false}
 use Rattle.registers.specs.Csr as csr
 use Rattle.registers.specs.Registers.{numberedOf}
@@ -26,6 +26,7 @@ use Rattle.prescaler.specs.declared.Prescalers.{Prescalers}
 use Rattle.prescaler.proofs.PrescalerLoadLaws as load
 use Rattle.branch.specs.Branch.{held}
 use Rattle.branch.specs.declared.Branch.{Branch}
+use Rattle.branches.specs.Readout.{emptiedOf}
 use Rattle.branches.proofs.ReadoutLaws as readout
 use Rattle.core.specs.Core as core
 use Rattle.supervisor.specs.Supervisor.{freshOf, resetOf, initializedOf}
@@ -105,7 +106,7 @@ module _ {branches : ℕ} (s : Supervisor) (a : Account) (v : Invariant branches
 
   -- [CSRWrite.2d] [Account.9]
   reset-keeps-invariant : Invariant branches (resetOf s) (afterRequest Reset a)
-  unfolding resetOf core.resetOf
+  unfolding resetOf core.resetOf emptiedOf
   reset-keeps-invariant =
       record {
         control = v .control;
@@ -118,8 +119,8 @@ module _ {branches : ℕ} (s : Supervisor) (a : Account) (v : Invariant branches
         events = refl;
         decides = refl;
         words = refl;
-        number = readout.emptied-keeps-length (s .readout) ∙ v .number;
-        ordering = λ k h. nothing-held _ (readout.emptied-holds-nothing (s .readout) k (rw (v .number) h));
+        number = readout.fresh-has-length (length (s .readout .branches)) ∙ v .number;
+        ordering = λ k h. nothing-held _ (readout.fresh-holds-nothing (length (s .readout .branches)) k (rw (v .number) h));
       }
 
   -- [CSRWrite.1] [Account.8]

@@ -13,7 +13,7 @@ use mathlib.Core.Bool.{Bool, true, false, not, _&&_, true≢false}
 use mathlib.Core.List.{List, [], _∷_, map}
 use native.Mathlib.Omega.{arith}
 use lib.Dec.{eqb, ltb}
-use lib.ListN.{length, length-map, replicate}
+use lib.ListN.{length, length-map}
 use borrow.Author.Tests.{ltb-true, ltb-false, ne-eqb, not-true}
 use Rattle.bits.specs.Notation.{_▷_}
 use Rattle.bits.specs.Bits.{tabulate, every}
@@ -30,7 +30,8 @@ use Rattle.branch.specs.declared.Slot.the-variants.{Nothing, Word}
 use Rattle.branch.specs.declared.Branch.{Branch}
 use Rattle.branch.specs.declared.BranchStep.{BranchStep}
 use Rattle.branches.specs.ReadoutFields.{withBranches, branchAt}
-use Rattle.branches.specs.Readout.{emptiedOf, isQuietOf, stepAt, sideAfterOf, stepOf, gatheredOf, noSide, silentOf}
+use Rattle.branches.specs.Readout.{freshBranches, emptiedOf, isQuietOf, stepAt, sideAfterOf, branchesAfterOf}
+use Rattle.branches.specs.Readout.{sidesAfterOf, linesAt, stepOf, gatheredOf, noSide, silentOf}
 use Rattle.branches.specs.Readout.{isSoundBranchOf, isWellFormedOf}
 use Rattle.branches.specs.declared.Readout.{Readout}
 
@@ -52,16 +53,20 @@ every-of-four n f h = ap (λ (k : ℕ). every k f) (sym h)
 pub emptied-of-four : (r : Readout) → length (r .branches) ≡ 4
     → r ▷ withBranches (branch.freshOf ∷ branch.freshOf ∷ branch.freshOf ∷ branch.freshOf ∷ []) ≡ emptiedOf r
 unfolding emptiedOf
-emptied-of-four r h = ap (λ (k : ℕ). r ▷ withBranches (replicate k branch.freshOf)) (sym h)
+emptied-of-four r h = ap (λ (k : ℕ). r ▷ withBranches (freshBranches k)) (sym h)
+
+-- the step of a branch of a module
+abbrev pub stepIn : (acks : ℕ) → Slot → Readout → (k : ℕ) → BranchStep
+stepIn acks load r = stepAt (linesAt acks) (linesAt (r .roc)) load (r .branches)
 
 pub gathered-of-four : (acks : ℕ) (load : Slot) (r : Readout) → length (r .branches) ≡ 4
-    → gatheredOf (stepAt acks load r 0) (stepAt acks load r 1) (stepAt acks load r 2) (stepAt acks load r 3) (r .roc)
+    → gatheredOf (stepIn acks load r 0) (stepIn acks load r 1) (stepIn acks load r 2) (stepIn acks load r 3) (r .roc)
     ≡ stepOf acks load r
-unfolding gatheredOf stepOf tabulate
+unfolding gatheredOf stepOf branchesAfterOf sidesAfterOf tabulate
 gathered-of-four acks load r h =
     ap (λ (k : ℕ). record {
-      next = r ▷ withBranches (tabulate k (λ i. stepAt acks load r i .next));
-      sides = tabulate k (λ i. sideAfterOf (stepAt acks load r i));
+      next = r ▷ withBranches (tabulate k (λ i. stepIn acks load r i .next));
+      sides = tabulate k (λ i. sideAfterOf (stepIn acks load r i));
     }) (sym h)
 
 -- ---- nothing moves
@@ -70,16 +75,16 @@ is-nothing : (load : Slot) → isWordOf load ≡ false → load ≡ Nothing
 is-nothing Nothing h = refl
 is-nothing (Word w) h = absurd (true≢false h)
 
-pub quiet-is-silent : (acks : ℕ) (load : Slot) (r : Readout) → length (r .branches) ≡ 4 → isQuietOf r ≡ true
-    → isWordOf load ≡ false → silentOf r ≡ stepOf acks load r
-unfolding isQuietOf stepOf tabulate
+pub quiet-is-silent : (acks : ℕ) (load : Slot) (r : Readout) → length (r .branches) ≡ 4
+    → isQuietOf (r .branches) ≡ true → isWordOf load ≡ false → silentOf r ≡ stepOf acks load r
+unfolding isQuietOf stepOf branchesAfterOf sidesAfterOf tabulate
 quiet-is-silent acks load r four quiet none =
     let n : ℕ = length (r .branches) in
-    let silent : (k : ℕ) → k < n → stepAt acks load r k ≡ branch.silent (branchAt (r .branches) k) =
+    let silent : (k : ℕ) → k < n → stepIn acks load r k ≡ branch.silent (branchAt (r .branches) k) =
     λ k h. rw (is-nothing load none)
     (quiet-step-silent _ _ (branchAt (r .branches) k) (every-at n (λ i. branch.isQuietOf (branchAt (r .branches) i)) quiet k h)) in
-    let branches = tabulate-same n (λ k. stepAt acks load r k .next) (branchAt (r .branches)) (λ k h. ap (λ (s : BranchStep). s .next) (silent k h)) in
-    let sides = tabulate-same n (λ k. sideAfterOf (stepAt acks load r k)) (λ k. noSide) (λ k h. ap sideAfterOf (silent k h)) in
+    let branches = tabulate-same n (λ k. stepIn acks load r k .next) (branchAt (r .branches)) (λ k h. ap (λ (s : BranchStep). s .next) (silent k h)) in
+    let sides = tabulate-same n (λ k. sideAfterOf (stepIn acks load r k)) (λ k. noSide) (λ k h. ap sideAfterOf (silent k h)) in
     let nothing : tabulate n (λ k. noSide) ≡ noSide ∷ noSide ∷ noSide ∷ noSide ∷ [] = ap (λ (k : ℕ). tabulate k (λ i. noSide)) four in
     let next = branches ∙ tabulate-getD (r .branches) branch.freshOf in
     sym (λ j. record { next = r ▷ withBranches (next j); sides = (sides ∙ nothing) j })
@@ -114,11 +119,10 @@ quiet-is-sound-branch eight Rest words len h =
 quiet-is-sound-branch eight Strobe words len h = absurd (true≢false (sym h))
 quiet-is-sound-branch eight Drop words len h = absurd (true≢false (sym h))
 
-pub quiet-is-well-formed : (eight : Bool) (r : Readout) → isQuietOf r ≡ true
-    → every (length (r .branches)) (λ k. eqb (branchAt (r .branches) k .words) 0) ≡ isWellFormedOf eight r
+pub quiet-is-well-formed : (eight : Bool) (bs : List Branch) → isQuietOf bs ≡ true
+    → every (length bs) (λ k. eqb (branchAt bs k .words) 0) ≡ isWellFormedOf eight bs
 unfolding isQuietOf isWellFormedOf
-quiet-is-well-formed eight r quiet =
-    let bs : List Branch = r .branches in
+quiet-is-well-formed eight bs quiet =
     every-same (length bs) (λ k. eqb (branchAt bs k .words) 0) (λ k. isSoundBranchOf eight (branchAt bs k))
     (λ k i.
     let b : Branch = branchAt bs k in

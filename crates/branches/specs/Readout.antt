@@ -1,16 +1,18 @@
--- The readout: the branches of a module and their ROC enable register. All that the rest of the record sees of the
--- branches is here, and it is said of a list of any length: the module has four.
+-- The branches, and the readout: the branches of a module and their ROC enable register. All that the rest of the record
+-- sees of the branches is here, and it is said of a list of any length, by place: the module has four.
 --     document 01     "The tick", Branches; "The tick", Main for the two facts that main asks; Active; Spoiled
 --     isEmptyOf       every branch is empty; hasRoomOf: every branch is below its depth
 --     isQuietOf       no branch keeps the record active
---     stepOf          a tick of all branches, with what each finished and shows
+--     branchesAfterOf, sidesAfterOf   a tick of all branches, and what each finished and shows; acks and enabled give the
+--                     lines of a place, whatever words they come from
 --     isWellFormedOf  no branch spoils the record
+--     linesAt, stepOf how a module's own two words give the lines of each branch, and its tick
 -- Place k is branch k + 1.
 -- Own rules of 01 used here: none. Decisions: B4, B6, T4, A4. Left out: nothing.
 -- Assumes nothing.
 use Prim.Native.Nat.{ℕ, _%_}
 use mathlib.Core.Bool.{Bool, not, _&&_, _||_}
-use mathlib.Core.List.{[], _∷_}
+use mathlib.Core.List.{List, [], _∷_}
 use lib.Dec.{eqb, ltb}
 use lib.ListN.{length, replicate}
 use Rattle.bits.specs.Notation.{if_then_else_, _▷_}
@@ -32,52 +34,68 @@ use Rattle.branches.specs.declared.ReadoutStep.{ReadoutStep}
 abbrev pub moduleBranches : ℕ
 moduleBranches = 4
 
+-- [Registers.4] every branch fresh
+abbrev pub freshBranches : (n : ℕ) → List Branch
+freshBranches n = replicate n branch.freshOf
+
 -- [Registers.4] no controller enabled, every branch fresh
 abbrev pub freshOf : (branches : ℕ) → Readout
-freshOf n = record { branches = replicate n branch.freshOf; roc = 0 }
+freshOf n = record { branches = freshBranches n; roc = 0 }
 
 -- [CSRWrite.2d] RESET empties the queues and idles the handshakes; ROC enable stays
 unfoldable pub emptiedOf : Readout → Readout
-emptiedOf r = r ▷ withBranches (replicate (length (r .branches)) branch.freshOf)
+emptiedOf r = r ▷ withBranches (freshBranches (length (r .branches)))
 
 -- a test of every branch
-abbrev pub everyBranch : (ℕ → Branch → Bool) → Readout → Bool
-everyBranch test r = every (length (r .branches)) (λ k. test k (branchAt (r .branches) k))
+abbrev pub everyBranch : (ℕ → Branch → Bool) → List Branch → Bool
+everyBranch test bs = every (length bs) (λ k. test k (branchAt bs k))
 
 -- ---- what main and the user sync ask: two facts
 
 -- [Main.14] [Usersync.2] DECISIONS B4: a branch at Drop may be empty
-unfoldable pub isEmptyOf : Readout → Bool
-isEmptyOf r = everyBranch (λ k b. not (branch.hasWord b)) r
+unfoldable pub isEmptyOf : List Branch → Bool
+isEmptyOf bs = everyBranch (λ k b. not (branch.hasWord b)) bs
 
 -- [Main.13] DECISIONS B6: 8, or 1 by CSR bit 9, or by bit 10 for branch 4 of a module, every fourth of a longer list
 abbrev pub depthOf : (lock lock4 : Bool) (k : ℕ) → ℕ
 depthOf lock lock4 k = if (eqb (k % moduleBranches) 3 && lock4) || lock then 1 else branch.queueDepth
 
-unfoldable pub hasRoomOf : (lock lock4 : Bool) → Readout → Bool
-hasRoomOf lock lock4 r = everyBranch (λ k b. ltb (b .len) (depthOf lock lock4 k)) r
+unfoldable pub hasRoomOf : (lock lock4 : Bool) → List Branch → Bool
+hasRoomOf lock lock4 bs = everyBranch (λ k b. ltb (b .len) (depthOf lock lock4 k)) bs
 
 -- ---- what the active rule asks
 
 -- [Active.1] no branch holds a word or is away from Rest
-unfoldable pub isQuietOf : Readout → Bool
-isQuietOf r = everyBranch (λ k b. branch.isQuietOf b) r
+unfoldable pub isQuietOf : List Branch → Bool
+isQuietOf bs = everyBranch (λ k b. branch.isQuietOf b) bs
 
 -- ---- a tick of all branches
 
--- [Tick.1] [Registers.1] each branch has its own byte of the acknowledges and of ROC enable
-abbrev pub stepAt : (acks : ℕ) → Slot → Readout → (k : ℕ) → BranchStep
-stepAt acks load r k = branch.stepOf (byteAt acks k) (byteAt (r .roc) k) load (branchAt (r .branches) k)
+-- each branch has its own acknowledges and enabled controllers
+abbrev pub stepAt : (acks enabled : ℕ → ℕ) → Slot → List Branch → (k : ℕ) → BranchStep
+stepAt acks enabled load bs k = branch.stepOf (acks k) (enabled k) load (branchAt bs k)
 
 abbrev pub sideAfterOf : BranchStep → Side
 sideAfterOf s = record { finished = s .finished; shown = s .shown }
 
 -- [Branches.5] a load reaches every branch
+unfoldable pub branchesAfterOf : (acks enabled : ℕ → ℕ) → Slot → List Branch → List Branch
+branchesAfterOf acks enabled load bs = tabulate (length bs) (λ k. stepAt acks enabled load bs k .next)
+
+unfoldable pub sidesAfterOf : (acks enabled : ℕ → ℕ) → Slot → List Branch → List Side
+sidesAfterOf acks enabled load bs = tabulate (length bs) (λ k. sideAfterOf (stepAt acks enabled load bs k))
+
+-- ---- a tick of a module
+
+-- [Tick.1] [Registers.1] each branch of a module has its own byte of the acknowledges and of ROC enable
+abbrev pub linesAt : (word k : ℕ) → ℕ
+linesAt word k = byteAt word k
+
 unfoldable pub stepOf : (acks : ℕ) → Slot → Readout → ReadoutStep
 stepOf acks load r =
     record {
-      next = r ▷ withBranches (tabulate (length (r .branches)) (λ k. stepAt acks load r k .next));
-      sides = tabulate (length (r .branches)) (λ k. sideAfterOf (stepAt acks load r k));
+      next = r ▷ withBranches (branchesAfterOf (linesAt acks) (linesAt (r .roc)) load (r .branches));
+      sides = sidesAfterOf (linesAt acks) (linesAt (r .roc)) load (r .branches);
     }
 
 -- the same, put together from the steps of a module's four branches
@@ -101,5 +119,5 @@ silentOf r = record { next = r; sides = noSide ∷ noSide ∷ noSide ∷ noSide 
 abbrev pub isSoundBranchOf : (eight : Bool) → Branch → Bool
 isSoundBranchOf eight b = (eight || branch.hasFreePlaceOf b) && branch.isWellFormedOf b
 
-unfoldable pub isWellFormedOf : (eight : Bool) → Readout → Bool
-isWellFormedOf eight r = everyBranch (λ k b. isSoundBranchOf eight b) r
+unfoldable pub isWellFormedOf : (eight : Bool) → List Branch → Bool
+isWellFormedOf eight bs = everyBranch (λ k b. isSoundBranchOf eight b) bs

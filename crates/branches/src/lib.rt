@@ -121,7 +121,7 @@ impl Readout {
 
     // [Main.14] [Usersync.2] no branch holds a word
     pub fn is_empty(self) -> bool
-        ensures { λ r. ⌜ r ≡ isEmptyOf self ⌝ }
+        ensures { λ r. ⌜ r ≡ isEmptyOf (self .branches) ⌝ }
     {
         let bs = self.branches;
         let b0 = bs[0];
@@ -133,7 +133,7 @@ impl Readout {
 
     // [Main.13] every branch is below its depth; lock: CSR bit 9; lock4: bit 10
     pub fn has_room(self, lock: bool, lock4: bool) -> bool
-        ensures { λ r. ⌜ r ≡ hasRoomOf lock lock4 self ⌝ }
+        ensures { λ r. ⌜ r ≡ hasRoomOf lock lock4 (self .branches) ⌝ }
     {
         let bs = self.branches;
         let b0 = bs[0];
@@ -147,7 +147,7 @@ impl Readout {
 
     // [Active.1] no branch holds a word or is away from Rest
     pub fn is_quiet(self) -> bool
-        ensures { λ r. ⌜ r ≡ isQuietOf self ⌝ }
+        ensures { λ r. ⌜ r ≡ isQuietOf (self .branches) ⌝ }
     {
         let bs = self.branches;
         let b0 = bs[0];
@@ -210,7 +210,7 @@ impl Readout {
     // [Spoiled.1d] [Spoiled.1f] [Spoiled.1g] eight: a queue may hold eight words.
     // Quiet branches, the common case, spoil nothing if no place holds anything.
     pub fn is_well_formed(self, eight: bool) -> bool
-        ensures { λ r. ⌜ r ≡ isWellFormedOf eight self ⌝ }
+        ensures { λ r. ⌜ r ≡ isWellFormedOf eight (self .branches) ⌝ }
     {
         let bs = self.branches;
         let b0 = bs[0];

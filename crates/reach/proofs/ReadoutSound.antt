@@ -5,7 +5,7 @@
 use Prim.Native.Nat.{ℕ, _<_, _≤_}
 use mathlib.Core.Path.{_≡_, refl, sym, ap, _∙_}
 use mathlib.Core.Bool.{Bool, true, false, true≢false, false≢true}
-use mathlib.Core.List.{append-nil}
+use mathlib.Core.List.{List, append-nil}
 use native.Mathlib.Omega.{arith}
 use lib.ListN.{length, getD, length-append}
 use borrow.Author.Tests.{ltb-true, lt-ltb}
@@ -20,29 +20,28 @@ use Rattle.branch.specs.declared.Branch.{Branch}
 use Rattle.branches.specs.ReadoutFields.{branchAt}
 use Rattle.branches.specs.Readout as readout
 use Rattle.branches.proofs.ReadoutLaws as laws
-use Rattle.branches.specs.declared.Readout.{Readout}
 use Rattle.sequencer.specs.States.{outcomeWords}
 use Rattle.sequencer.specs.declared.states.Outcome.{Outcome}
 use Rattle.sequencer.specs.declared.states.Outcome.the-variants.{Nothing}
 use Rattle.supervisor.specs.Supervisor.{loadOf}
 use Rattle.supervisor.proofs.SupervisorLaws.{load-words, no-load}
 use Rattle.core.proofs.CoreParts.{isLoad}
-use Rattle.reach.proofs.Sound.{SoundBranch, SoundReadout, readout-test}
+use Rattle.reach.proofs.Sound.{SoundBranch, SoundBranches, branches-test}
 
 -- ---- a branch that takes no load holds no more words than before
 
-module _ (acks : ℕ) (eight : Bool) (r : Readout) (sound : SoundReadout eight r) (k : ℕ) (h : k < length (r .branches)) where
+module _ (acks enabled : ℕ → ℕ) (eight : Bool) (bs : List Branch) (sound : SoundBranches eight bs) (k : ℕ) (h : k < length bs) where
   abbrev before : Branch
-  before = branchAt (r .branches) k
+  before = branchAt bs k
 
   abbrev after : Slot → Branch
-  after load = branchAt (readout.stepOf acks load r .next .branches) k
+  after load = branchAt (readout.branchesAfterOf acks enabled load bs) k
 
   pub adds-none : after slot.Nothing .len ≤ before .len
   adds-none =
-      let fine = readout-test eight r sound in
-      let order = laws.step-keeps-order acks slot.Nothing r k h eight fine refl (λ e. absurd (false≢true e)) in
-      let words = wordsIn (getD (readout.stepOf acks slot.Nothing r .sides) k readout.noSide .finished) in
+      let fine = branches-test eight bs sound in
+      let order = laws.step-keeps-order acks enabled slot.Nothing bs k h eight fine refl (λ e. absurd (false≢true e)) in
+      let words = wordsIn (getD (readout.sidesAfterOf acks enabled slot.Nothing bs) k readout.noSide .finished) in
       let sum = sym (length-append words (held (after slot.Nothing))) ∙ ap length (order ∙ append-nil (held before)) in
       omega (arith, sum, held-length (after slot.Nothing), held-length before)
 
@@ -56,7 +55,7 @@ module _ (acks : ℕ) (eight : Bool) (r : Readout) (sound : SoundReadout eight r
   branch-stays-sound o eight′ six loads below leaves =
       record {
         wellFormed =
-            laws.step-keeps-well-formed acks (loadOf o) r k h eight (readout-test eight r sound)
+            laws.step-keeps-well-formed acks enabled (loadOf o) bs k h eight (branches-test eight bs sound)
             (ap (allOf branch.isSixBit) (load-words o) ∙ six);
         room = λ e. go (isLoad o) refl e;
       }

@@ -1,7 +1,7 @@
 -- A record that is not spoiled, as facts in groups: each group over just the fields that it reads, so that a call that
 -- leaves a group alone hands it on.
 --     SoundCore           the clauses on the core
---     SoundReadout        the clauses on the branches
+--     SoundBranches       the clauses on the branches
 --     SoundBranch         those on one branch
 --     Unspoiled           both
 --     unspoiled-from-test, unspoiled-to-test   the spoiled rule and the facts say the same
@@ -9,6 +9,7 @@
 use Prim.Native.Nat.{ℕ, _<_}
 use mathlib.Core.Path.{_≡_, refl}
 use mathlib.Core.Bool.{Bool, true, false, _&&_, _||_}
+use mathlib.Core.List.{List}
 use lib.Dec.{lit<}
 use lib.ListN.{length}
 use borrow.Author.Tests.{not-false}
@@ -28,7 +29,6 @@ use Rattle.branch.proofs.BranchLaws.{well-formed-from-test, well-formed-to-test
 use Rattle.branch.specs.declared.Branch.{Branch}
 use Rattle.branches.specs.ReadoutFields.{branchAt}
 use Rattle.branches.specs.Readout as readout
-use Rattle.branches.specs.declared.Readout.{Readout}
 use Rattle.core.specs.Core.{soundnessOf, isSoundOf, allowsEightOf}
 use Rattle.core.specs.declared.Core.{Core}
 use Rattle.supervisor.specs.Supervisor.{isSpoiledOf}
@@ -56,12 +56,12 @@ pub record SoundBranch (eight : Bool) (b : Branch) : Type 0 where
   pub wellFormed : WellFormedBranch b
   pub room : eight ≡ false → hasFreePlaceOf b ≡ true
 
-abbrev pub SoundReadout : (eight : Bool) → Readout → Type 0
-SoundReadout eight r = (k : ℕ) → k < length (r .branches) → SoundBranch eight (branchAt (r .branches) k)
+abbrev pub SoundBranches : (eight : Bool) → List Branch → Type 0
+SoundBranches eight bs = (k : ℕ) → k < length bs → SoundBranch eight (branchAt bs k)
 
 pub record Unspoiled (s : Supervisor) : Type 0 where
   pub core : SoundCore (s .core)
-  pub readout : SoundReadout (allowsEightOf (s .core)) (s .readout)
+  pub branches : SoundBranches (allowsEightOf (s .core)) (s .readout .branches)
 
 -- ---- the rule and the facts
 
@@ -111,23 +111,21 @@ branch-to-test eight b h =
     and-both (eight || hasFreePlaceOf b) (branch.isWellFormedOf b) (or-when eight (hasFreePlaceOf b) (h .room))
     (well-formed-to-test b (h .wellFormed))
 
-module _ (eight : Bool) (r : Readout) where
+module _ (eight : Bool) (bs : List Branch) where
   abbrev sound : ℕ → Bool
-  sound k = readout.isSoundBranchOf eight (branchAt (r .branches) k)
+  sound k = readout.isSoundBranchOf eight (branchAt bs k)
 
-  readout-from-test : readout.isWellFormedOf eight r ≡ true → SoundReadout eight r
+  branches-from-test : readout.isWellFormedOf eight bs ≡ true → SoundBranches eight bs
   unfolding readout.isWellFormedOf
-  readout-from-test h k i =
-      branch-from-test eight (branchAt (r .branches) k) (every-at (length (r .branches)) sound h k i)
+  branches-from-test h k i = branch-from-test eight (branchAt bs k) (every-at (length bs) sound h k i)
 
-  readout-to-test : SoundReadout eight r → readout.isWellFormedOf eight r ≡ true
+  branches-to-test : SoundBranches eight bs → readout.isWellFormedOf eight bs ≡ true
   unfolding readout.isWellFormedOf
-  readout-to-test h =
-      at-every (length (r .branches)) sound (λ k i. branch-to-test eight (branchAt (r .branches) k) (h k i))
+  branches-to-test h = at-every (length bs) sound (λ k i. branch-to-test eight (branchAt bs k) (h k i))
 
 module _ (s : Supervisor) where
   abbrev branchesFine : Bool
-  branchesFine = readout.isWellFormedOf (allowsEightOf (s .core)) (s .readout)
+  branchesFine = readout.isWellFormedOf (allowsEightOf (s .core)) (s .readout .branches)
 
   pub unspoiled-from-test : isSpoiledOf s ≡ false → Unspoiled s
   unfolding isSpoiledOf
@@ -135,17 +133,17 @@ module _ (s : Supervisor) where
       let both : (branchesFine && isSoundOf (s .core)) ≡ true = not-false (branchesFine && isSoundOf (s .core)) h in
       record {
         core = sound-from-test (s .core) (and-right branchesFine (isSoundOf (s .core)) both);
-        readout = readout-from-test (allowsEightOf (s .core)) (s .readout) (and-left branchesFine (isSoundOf (s .core)) both);
+        branches = branches-from-test (allowsEightOf (s .core)) (s .readout .branches) (and-left branchesFine (isSoundOf (s .core)) both);
       }
 
   pub unspoiled-to-test : Unspoiled s → isSpoiledOf s ≡ false
   unfolding isSpoiledOf
   unspoiled-to-test h =
-      rw (readout-to-test (allowsEightOf (s .core)) (s .readout) (h .readout), sound-to-test (s .core) (h .core))
+      rw (branches-to-test (allowsEightOf (s .core)) (s .readout .branches) (h .branches), sound-to-test (s .core) (h .core))
 
--- what the laws of the readout and the core ask
+-- what the laws of the branches and the core ask
 pub sound-test : (c : Core) → SoundCore c → isSoundOf c ≡ true
 sound-test = sound-to-test
 
-pub readout-test : (eight : Bool) (r : Readout) → SoundReadout eight r → readout.isWellFormedOf eight r ≡ true
-readout-test = readout-to-test
+pub branches-test : (eight : Bool) (bs : List Branch) → SoundBranches eight bs → readout.isWellFormedOf eight bs ≡ true
+branches-test = branches-to-test

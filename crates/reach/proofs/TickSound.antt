@@ -19,7 +19,7 @@ use Rattle.branch.proofs.BranchLaws.{held-length}
 use Rattle.branches.specs.ReadoutFields.{branchAt}
 use Rattle.branches.specs.Readout as readout
 use Rattle.branches.proofs.ReadoutLaws as laws
-use Rattle.branches.specs.declared.Readout.{Readout}
+use Rattle.branch.specs.declared.Branch.{Branch}
 use Rattle.sequencer.specs.MemoryWord.{isOkWord}
 use Rattle.sequencer.specs.MainFields.{quiet}
 use Rattle.sequencer.specs.States.{isIdle, isLoaded, isEvent}
@@ -181,16 +181,16 @@ interval-stays room empty x memory c =
     sync-keeps-interval (csr.enablesSync (c .csr)) (mainStep room empty x memory c) (core.userStepOf empty c) (c .sync)
 
 -- every branch has room where the core's test on the branches held
-test-gives-room : (lock lock4 : Bool) (r : Readout) (k : ℕ) → k < length (r .branches)
-    → (readout.hasRoomOf lock lock4 r || readout.isEmptyOf r) ≡ true → branchAt (r .branches) k .len < queueDepth
-test-gives-room lock lock4 r k h = go (readout.hasRoomOf lock lock4 r) refl
+test-gives-room : (lock lock4 : Bool) (bs : List Branch) (k : ℕ) → k < length bs
+    → (readout.hasRoomOf lock lock4 bs || readout.isEmptyOf bs) ≡ true → branchAt bs k .len < queueDepth
+test-gives-room lock lock4 bs k h = go (readout.hasRoomOf lock lock4 bs) refl
   where
-    go : (room : Bool) → readout.hasRoomOf lock lock4 r ≡ room → (room || readout.isEmptyOf r) ≡ true
-        → branchAt (r .branches) k .len < queueDepth
-    go true e t = laws.room-is-below-eight r k h lock lock4 e
+    go : (room : Bool) → readout.hasRoomOf lock lock4 bs ≡ room → (room || readout.isEmptyOf bs) ≡ true
+        → branchAt bs k .len < queueDepth
+    go true e t = laws.room-is-below-eight bs k h lock lock4 e
     go false e t =
-        let none = ap length (laws.empty-at r k h t) in
-        omega (arith, none, held-length (branchAt (r .branches) k))
+        let none = ap length (laws.empty-at bs k h t) in
+        omega (arith, none, held-length (branchAt bs k))
 
 module _ (memory : List ℕ) (x : Inputs) (s : Supervisor) (ofType : OfType s) (u : Unspoiled s) where
   pub tick-keeps-type : OfType (tickedOf memory x s .next)
@@ -198,30 +198,33 @@ module _ (memory : List ℕ) (x : Inputs) (s : Supervisor) (ofType : OfType s) (
   tick-keeps-type =
       let lock = csr.locksRoc (s .core .csr) in
       let lock4 = csr.locksBranch4 (s .core .csr) in
-      let room = readout.hasRoomOf lock lock4 (s .readout) in
-      let empty = readout.isEmptyOf (s .readout) in
+      let room = readout.hasRoomOf lock lock4 (s .readout .branches) in
+      let empty = readout.isEmptyOf (s .readout .branches) in
       record {
         eight = coreLaws.step-keeps-lengths room empty x memory (s .core) (ofType .eight);
         interval = rw (interval-stays room empty x memory (s .core)) (ofType .interval);
       }
 
   pub tick-keeps-unspoiled : Unspoiled (tickedOf memory x s .next)
-  unfolding tickedOf joinedOf coreStepOf readoutStepOf
+  unfolding tickedOf joinedOf coreStepOf readoutStepOf readout.stepOf
   tick-keeps-unspoiled =
       let lock = csr.locksRoc (s .core .csr) in
       let lock4 = csr.locksBranch4 (s .core .csr) in
-      let room = readout.hasRoomOf lock lock4 (s .readout) in
-      let empty = readout.isEmptyOf (s .readout) in
+      let room = readout.hasRoomOf lock lock4 (s .readout .branches) in
+      let empty = readout.isEmptyOf (s .readout .branches) in
+      let acks = readout.linesAt (x .acks) in
+      let enabled = readout.linesAt (s .readout .roc) in
+      let bs = s .readout .branches in
       let step : CoreStep = core.stepOf room empty x memory (s .core) in
       record {
         core = tick-keeps-sound room empty x memory (s .core) (u .core) (ofType .interval);
-        readout = λ k h.
-            let before = rw (laws.step-keeps-length (x .acks) _ (s .readout)) at h in
-            branch-stays-sound (x .acks) (core.allowsEightOf (s .core)) (s .readout) (u .readout) k before (step .outcome)
+        branches = λ k h.
+            let before = rw (laws.step-keeps-length acks enabled _ bs) at h in
+            branch-stays-sound acks enabled (core.allowsEightOf (s .core)) bs (u .branches) k before (step .outcome)
             (core.allowsEightOf (step .next))
             (coreLaws.step-loads-six-bits room empty x memory (s .core))
             (load-allows-eight room empty x memory (s .core))
             (coreLaws.step-loads-below-eight room empty x memory (s .core) (sound-test (s .core) (u .core)))
             (λ e e′.
-            test-gives-room lock lock4 (s .readout) k before (leaves-by-test room empty x memory (s .core) e e′));
+            test-gives-room lock lock4 bs k before (leaves-by-test room empty x memory (s .core) e e′));
       }

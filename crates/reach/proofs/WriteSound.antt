@@ -60,7 +60,7 @@ unfolding freshOf
 fresh-is-unspoiled n =
     record {
       core = fresh-is-sound;
-      readout = λ k h. fresh-branch _ _ (laws.fresh-is-fresh n k (rw (laws.fresh-has-length n) at h));
+      branches = λ k h. fresh-branch _ _ (laws.fresh-is-fresh n k (rw (laws.fresh-has-length n) at h));
     }
 
 -- ---- the CSR
@@ -72,7 +72,7 @@ module _ (s : Supervisor) (u : Unspoiled s) where
       let c = u .core in
       record {
         core = record { counters = c .counters; factors = c .factors; csr = valid; control = c .control; assign = c .assign; main = c .main; count = c .count; waits = c .waits };
-        readout = u .readout;
+        branches = u .branches;
       }
 
   -- [Declines.2c] [Declines.4d]
@@ -83,12 +83,13 @@ module _ (s : Supervisor) (u : Unspoiled s) where
 
 -- [CSRWrite.2d]
 reset-keeps-unspoiled : (s : Supervisor) → Unspoiled s → Unspoiled (resetOf s)
-unfolding resetOf
+unfolding resetOf readout.emptiedOf
 reset-keeps-unspoiled s u =
     record {
       core = reset-keeps-sound (s .core) (u .core);
-      readout = λ k h.
-          fresh-branch _ _ (laws.emptied-is-fresh (s .readout) k (rw (laws.emptied-keeps-length (s .readout)) at h));
+      branches = λ k h.
+          let n : ℕ = length (s .readout .branches) in
+          fresh-branch _ _ (laws.fresh-is-fresh n k (rw (laws.fresh-has-length n) at h));
     }
 
 module _ (v : ℕ) (s : Supervisor) (u : Unspoiled s) where
@@ -171,14 +172,14 @@ module _ (s : Supervisor) (ofType : OfType s) (u : Unspoiled s) where
       → core.allowsEightOf (coreWrittenOf r v (s .core)) ≡ core.allowsEightOf (s .core)
       → Unspoiled (s ▷ withCore (coreWrittenOf r v (s .core)))
   with-core r v valid eight =
-      record { core = core-keeps-sound r v valid; readout = rw eight (u .readout) }
+      record { core = core-keeps-sound r v valid; branches = rw eight (u .branches) }
 
   pub write-keeps-unspoiled : (r : Register) (v : ℕ) → isValidValue r v ≡ true → Unspoiled (writtenOf r v s)
   unfolding writtenOf coreWrittenOf
   write-keeps-unspoiled register.Csr v valid = csr-keeps-unspoiled v s u
   write-keeps-unspoiled register.Control v valid = with-core register.Control v valid refl
   write-keeps-unspoiled (register.Factor input) v valid = with-core (register.Factor input) v valid refl
-  write-keeps-unspoiled register.RocEnable v valid = record { core = u .core; readout = u .readout }
+  write-keeps-unspoiled register.RocEnable v valid = record { core = u .core; branches = u .branches }
   write-keeps-unspoiled register.Interval v valid = with-core register.Interval v valid refl
   write-keeps-unspoiled (register.Timer n) v valid = with-core (register.Timer n) v valid refl
   write-keeps-unspoiled (register.Scaler n) v valid = with-core (register.Scaler n) v valid refl

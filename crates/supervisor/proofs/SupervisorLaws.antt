@@ -43,7 +43,7 @@ no-load (Tag w) h = absurd (true≢false h)
 
 module _ (s : Supervisor) (clean : isSpoiledOf s ≡ false) where
   abbrev wellFormed : Bool
-  wellFormed = readout.isWellFormedOf (core.allowsEightOf (s .core)) (s .readout)
+  wellFormed = readout.isWellFormedOf (core.allowsEightOf (s .core)) (s .readout .branches)
 
   abbrev sound : Bool
   sound = core.isSoundOf (s .core)

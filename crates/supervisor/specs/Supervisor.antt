@@ -53,13 +53,13 @@ resetOf s = record { readout = readout.emptiedOf (s .readout); core = core.reset
 
 -- [Active.1]
 unfoldable pub isActiveOf : Supervisor → Bool
-isActiveOf s = core.isActiveOf (s .core) || not (readout.isQuietOf (s .readout))
+isActiveOf s = core.isActiveOf (s .core) || not (readout.isQuietOf (s .readout .branches))
 
 -- 01 calls such a record spoiled: some clause of its list does not hold
 -- [Spoiled.1d] [Spoiled.1f] [Spoiled.1g] of the branches; the other clauses of the core
 unfoldable pub isSpoiledOf : Supervisor → Bool
 isSpoiledOf s =
-    not (readout.isWellFormedOf (core.allowsEightOf (s .core)) (s .readout) && core.isSoundOf (s .core))
+    not (readout.isWellFormedOf (core.allowsEightOf (s .core)) (s .readout .branches) && core.isSoundOf (s .core))
 
 -- ---- the tick
 
@@ -74,8 +74,8 @@ loadOf (Tag w) = Word w
 unfoldable pub coreStepOf : List ℕ → Inputs → Supervisor → CoreStep
 coreStepOf memory x s =
     core.stepOf
-    (readout.hasRoomOf (csr.locksRoc (s .core .csr)) (csr.locksBranch4 (s .core .csr)) (s .readout))
-    (readout.isEmptyOf (s .readout)) x memory (s .core)
+    (readout.hasRoomOf (csr.locksRoc (s .core .csr)) (csr.locksBranch4 (s .core .csr)) (s .readout .branches))
+    (readout.isEmptyOf (s .readout .branches)) x memory (s .core)
 
 -- the branches' step, with the word that the core loads
 unfoldable pub readoutStepOf : Inputs → Outcome → Supervisor → ReadoutStep

@@ -19,7 +19,7 @@ returns c =
     let a = start .args in
     let bs = a .self .branches in
     let quiet = sym (tested .before .is-quiet .ensures) ∙ tested .if1 .taken in
-    every-of-four (length bs) (λ k. eqb (branchAt bs k .words) 0) four ∙ quiet-is-well-formed (a .eight) (a .self) quiet
+    every-of-four (length bs) (λ k. eqb (branchAt bs k .words) 0) four ∙ quiet-is-well-formed (a .eight) bs quiet
 
 returns-2 : tie.Need-returns-2
 unfolding isWellFormedOf
