@@ -40,9 +40,13 @@ class Crate:
             for function, head in FUNCTION.findall(read(path)):
                 self.heads[function.replace("_", "-")] = head
         self.opens = {}
-        for path in self.folder.glob("specs/*.antt"):
-            for definition in re.findall(r"(?m)^unfoldable pub (\S+) :", read(path)):
-                self.opens[definition] = f"Rattle.{name}.specs.{path.stem}"
+        own = "".join(read(path) for path in self.folder.glob("src/*.rt"))
+        for path in TOP.glob("crates/*/specs/*.antt"):
+            owner = path.parent.parent.name
+            module = f"Rattle.{owner}.specs.{path.stem}" if owner == name else f"Rattle.{owner}.specs.{path.stem}"
+            if owner == name or f"ghost use {module}." in own:
+                for definition in re.findall(r"(?m)^unfoldable pub (\S+) :", read(path)):
+                    self.opens[definition] = module
 
     def head(self, callee):
         """The head of a function as a proof names it: a second call of one ends in a number."""

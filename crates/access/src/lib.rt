@@ -1,15 +1,19 @@
 // What a register write that is carried out does to the record, and what a register reads (document 01, "Registers"). The
 // definitions are in specs/Access.antt.
 ghost use mathlib.Core.Path.{_≡_};
-ghost use Rattle.branches.specs.ReadoutFields.{withRoc};
-ghost use Rattle.supervisor.specs.Supervisor.{withReadout};
-ghost use Rattle.access.specs.Access.{afterCsrOf, csrWrittenOf, coreWrittenOf, writtenOf, storedOf};
+ghost use Rattle.core.specs.CoreFields.{withScalers};
+ghost use Rattle.supervisor.specs.Supervisor.{withCore};
+ghost use Rattle.access.specs.Access.{afterCsrOf, csrWrittenOf, coreSetOf, readoutSetOf, settingWrittenOf};
+ghost use Rattle.access.specs.Access.{writtenOf, settingOf, storedOf};
+use branches::Readout;
 use core::Core;
 use registers::control::Control;
 use registers::csr::Csr;
 use registers::csr::CsrWrite;
 use registers::csr::Request;
 use registers::register::Register;
+use registers::register::Setting;
+use scalers::Scalers;
 use supervisor::Supervisor;
 use sync::counter::SyncCounter;
 
@@ -35,25 +39,24 @@ fn csr_written(s: Supervisor, value: u32) -> Supervisor
     after_csr(s, csr.written(value))
 }
 
-// [Registers.2] [Registers.3] the registers of the core but for the CSR
-fn core_written(core: Core, register: Register, value: u32) -> Core
-    ensures { λ r. ⌜ r ≡ coreWrittenOf register value core ⌝ }
+// [Registers.2] what a setting changes of the core
+fn core_set(core: Core, setting: Setting, value: u32) -> Core
+    ensures { λ r. ⌜ r ≡ coreSetOf setting value core ⌝ }
 {
     let mut next = core;
-    match register {
-        Register::Csr => core,
-        Register::Control => {
+    match setting {
+        Setting::Control => {
             let control = Control { word: value };
             next.control = control;
             next
         }
-        Register::Factor(input) => {
+        Setting::Factor(input) => {
             let prescalers = core.prescalers.with_factor(input, value);
             next.prescalers = prescalers;
             next
         }
-        Register::RocEnable => core,
-        Register::Interval => {
+        Setting::RocEnable => core,
+        Setting::Interval => {
             let sync = SyncCounter {
                 interval: (value % 65536) as u16,
                 count: core.sync.count,
@@ -61,49 +64,75 @@ fn core_written(core: Core, register: Register, value: u32) -> Core
             next.sync = sync;
             next
         }
-        Register::Timer(n) => {
+        Setting::Timer(n) => {
             let timers = core.timers.written(n, value);
             next.timers = timers;
             next
         }
-        Register::Scaler(n) => {
-            let scalers = core.scalers.zeroed(n);
-            next.scalers = scalers;
-            next
-        }
-        Register::Assign => {
-            let mut scalers = core.scalers;
-            scalers.assign = value;
-            next.scalers = scalers;
-            next
-        }
-        Register::Absent => core,
     }
 }
 
-fn roc_written(s: Supervisor, value: u32) -> Supervisor
-    ensures { λ r. ⌜ r ≡ withReadout (withRoc value (s .readout)) s ⌝ }
+// what a setting changes of the readout
+fn readout_set(readout: Readout, setting: Setting, value: u32) -> Readout
+    ensures { λ r. ⌜ r ≡ readoutSetOf setting value readout ⌝ }
 {
-    let mut readout = s.readout;
-    readout.roc = value;
-    s.with_readout(readout)
+    let mut next = readout;
+    match setting {
+        Setting::Control => readout,
+        Setting::Factor(_) => readout,
+        Setting::RocEnable => {
+            next.roc = value;
+            next
+        }
+        Setting::Interval => readout,
+        Setting::Timer(_) => readout,
+    }
+}
+
+fn setting_written(s: Supervisor, setting: Setting, value: u32) -> Supervisor
+    ensures { λ r. ⌜ r ≡ settingWrittenOf setting value s ⌝ }
+{
+    Supervisor {
+        readout: readout_set(s.readout, setting, value),
+        core: core_set(s.core, setting, value),
+    }
+}
+
+fn scalers_written(s: Supervisor, scalers: Scalers) -> Supervisor
+    ensures { λ r. ⌜ r ≡ withCore (withScalers scalers (s .core)) s ⌝ }
+{
+    let mut core = s.core;
+    core.scalers = scalers;
+    s.with_core(core)
 }
 
 // [CSRWrite.3] a register write that is carried out; it is not given the memory
 pub fn written(s: Supervisor, register: Register, value: u32) -> Supervisor
     ensures { λ r. ⌜ r ≡ writtenOf register value s ⌝ }
 {
-    let core = s.core;
     match register {
         Register::Csr => csr_written(s, value),
-        Register::Control => s.with_core(core_written(core, register, value)),
-        Register::Factor(_) => s.with_core(core_written(core, register, value)),
-        Register::RocEnable => roc_written(s, value),
-        Register::Interval => s.with_core(core_written(core, register, value)),
-        Register::Timer(_) => s.with_core(core_written(core, register, value)),
-        Register::Scaler(_) => s.with_core(core_written(core, register, value)),
-        Register::Assign => s.with_core(core_written(core, register, value)),
+        Register::Setting(setting) => setting_written(s, setting, value),
+        Register::Scaler(n) => scalers_written(s, s.core.scalers.zeroed(n)),
+        Register::Assign => {
+            let mut scalers = s.core.scalers;
+            scalers.assign = value;
+            scalers_written(s, scalers)
+        }
         Register::Absent => s,
+    }
+}
+
+fn setting_value(s: Supervisor, setting: Setting) -> u32
+    ensures { λ r. ⌜ r ≡ settingOf setting s ⌝ }
+{
+    let core = s.core;
+    match setting {
+        Setting::Control => core.control.word,
+        Setting::Factor(input) => core.prescalers.factor(input),
+        Setting::RocEnable => s.readout.roc,
+        Setting::Interval => core.sync.interval as u32,
+        Setting::Timer(n) => core.timers.stored(n),
     }
 }
 
@@ -114,11 +143,7 @@ pub fn stored(s: Supervisor, register: Register) -> u32
     let core = s.core;
     match register {
         Register::Csr => core.csr.word,
-        Register::Control => core.control.word,
-        Register::Factor(input) => core.prescalers.factor(input),
-        Register::RocEnable => s.readout.roc,
-        Register::Interval => core.sync.interval as u32,
-        Register::Timer(n) => core.timers.stored(n),
+        Register::Setting(setting) => setting_value(s, setting),
         Register::Scaler(n) => core.scalers.stored(n),
         Register::Assign => core.scalers.assign,
         Register::Absent => 0,

@@ -12,12 +12,12 @@ use Rattle.prescaler.specs.PrescalerFields.{counterAt, factorAt}
 use Rattle.prescaler.proofs.PrescalerLaws.{pass-count-divides}
 use Rattle.supervisor.specs.Supervisor.{freshOf}
 use Rattle.supervisor.specs.declared.Supervisor.{Supervisor}
-use Rattle.calls.specs.Answers.{Reply, declined, value}
-use Rattle.calls.specs.Calls.{markedOf}
-use Rattle.calls.specs.Runs.{Ask, writeRegister, readRegister, writeMemory, readMemory, tick}
-use Rattle.calls.specs.Runs.{Call, callOf, recordAfter, logOf}
-use Rattle.calls.proofs.CallEnds.{End, refused, refusedActive, wrote, gave, stored, ran, call-ends}
-use Rattle.calls.specs.Refusals.{statusBit}
+use Rattle.declines.specs.Answers.{Reply, declined, value}
+use Rattle.declines.specs.Calls.{markedOf}
+use Rattle.declines.specs.Runs.{Ask, writeRegister, readRegister, writeMemory, readMemory, tick}
+use Rattle.declines.specs.Runs.{Call, callOf, recordAfter, logOf}
+use Rattle.declines.proofs.CallEnds.{End, refused, refusedActive, wrote, gave, stored, ran, call-ends}
+use Rattle.declines.specs.Refusals.{statusBit}
 use Rattle.account.specs.AccountFields.{Account}
 use Rattle.account.specs.Account.{start, afterEntry, accountOf}
 use Rattle.account.specs.Demand3.{Balanced, Demand3, wordsOf}

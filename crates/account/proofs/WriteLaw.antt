@@ -17,9 +17,11 @@ use Rattle.registers.specs.declared.csr.CsrWrite.{CsrWrite}
 use Rattle.registers.specs.declared.csr.Request.{Request}
 use Rattle.registers.specs.declared.csr.Request.the-variants.{Nothing, Reset, Initialize}
 use Rattle.registers.specs.declared.register.Register.{Register}
-use Rattle.registers.specs.declared.register.Register.the-variants.{Csr, Control, Factor, RocEnable}
-use Rattle.registers.specs.declared.register.Register.the-variants.{Interval, Timer, Scaler, Assign, Absent}
-use Rattle.registers.proofs.RegistersLaws.{Between, InRange, numbered-is-in-range}
+use Rattle.registers.specs.declared.register.Register.the-variants.{Csr, Scaler, Assign, Absent}
+use Rattle.registers.specs.declared.register.Register.the-variants as register
+use Rattle.registers.specs.declared.register.Setting.{Setting}
+use Rattle.registers.specs.declared.register.Setting.the-variants.{Control, Factor, RocEnable, Interval, Timer}
+use Rattle.registers.proofs.RegistersLaws.{Between, SettingInRange, InRange, numbered-is-in-range}
 use Rattle.prescaler.specs.Prescaler.{prescaledInputs, withFactorOf, PassCount}
 use Rattle.prescaler.specs.PrescalerFields.{counterAt, factorAt}
 use Rattle.prescaler.specs.declared.Prescalers.{Prescalers}
@@ -31,9 +33,9 @@ use Rattle.branches.proofs.ReadoutLaws as readout
 use Rattle.core.specs.Core as core
 use Rattle.supervisor.specs.Supervisor.{freshOf, resetOf, initializedOf}
 use Rattle.supervisor.specs.declared.Supervisor.{Supervisor}
-use Rattle.access.specs.Access.{afterCsrOf, csrWrittenOf, coreWrittenOf, writtenOf}
+use Rattle.access.specs.Access.{afterCsrOf, csrWrittenOf, coreSetOf, readoutSetOf, settingWrittenOf, writtenOf}
 use Rattle.account.specs.AccountFields.{Account, put}
-use Rattle.account.specs.Account.{start, afterRequest, afterWrite}
+use Rattle.account.specs.Account.{start, afterRequest, afterFactor, afterSetting, afterWrite}
 use Rattle.account.proofs.Invariant.{Prescaling, Ordering, Invariant}
 
 -- ---- fresh
@@ -128,9 +130,11 @@ module _ {branches : ℕ} (s : Supervisor) (a : Account) (v : Invariant branches
   unfolding initializedOf
   initialize-keeps-invariant = rw (v .number) (fresh-has-invariant branches)
 
+  -- ---- a setting
+
   -- [Account.6]
-  control-keeps-invariant : (x : ℕ) → Invariant branches (writtenOf Control x s) (afterWrite Control x a)
-  unfolding writtenOf coreWrittenOf
+  control-keeps-invariant : (x : ℕ) → Invariant branches (settingWrittenOf Control x s) (afterSetting Control x a)
+  unfolding coreSetOf readoutSetOf
   control-keeps-invariant x =
       record {
         control = refl;
@@ -144,8 +148,8 @@ module _ {branches : ℕ} (s : Supervisor) (a : Account) (v : Invariant branches
       }
 
   factor-keeps-invariant : (input x : ℕ) → Between 1 8 input
-      → Invariant branches (writtenOf (Factor input) x s) (afterWrite (Factor input) x a)
-  unfolding writtenOf coreWrittenOf
+      → Invariant branches (settingWrittenOf (Factor input) x s) (afterFactor input x a)
+  unfolding coreSetOf readoutSetOf
   factor-keeps-invariant input x range =
       record {
         control = v .control;
@@ -158,6 +162,15 @@ module _ {branches : ℕ} (s : Supervisor) (a : Account) (v : Invariant branches
         ordering = v .ordering;
       }
 
+  setting-keeps-invariant : (r : Setting) → SettingInRange r → (x : ℕ)
+      → Invariant branches (settingWrittenOf r x s) (afterSetting r x a)
+  unfolding coreSetOf readoutSetOf
+  setting-keeps-invariant Control h x = control-keeps-invariant x
+  setting-keeps-invariant (Factor input) h x = factor-keeps-invariant input x h
+  setting-keeps-invariant RocEnable h x = v
+  setting-keeps-invariant Interval h x = v
+  setting-keeps-invariant (Timer n) h x = v
+
 -- ---- every register
 
 -- a CSR write by itself changes nothing that the account follows
@@ -169,13 +182,9 @@ request-keeps-invariant Nothing w s a v = v
 
 register-keeps-invariant : {branches : ℕ} (r : Register) → InRange r → (x : ℕ) (s : Supervisor) (a : Account)
     → Invariant branches s a → Invariant branches (writtenOf r x s) (afterWrite r x a)
-unfolding writtenOf coreWrittenOf csrWrittenOf csr.writtenOf
+unfolding writtenOf csrWrittenOf csr.writtenOf
 register-keeps-invariant Csr h x s a v = request-keeps-invariant (csr.requestedOf x) _ s a v
-register-keeps-invariant Control h x s a v = control-keeps-invariant s a v x
-register-keeps-invariant (Factor input) h x s a v = factor-keeps-invariant s a v input x h
-register-keeps-invariant RocEnable h x s a v = v
-register-keeps-invariant Interval h x s a v = v
-register-keeps-invariant (Timer n) h x s a v = v
+register-keeps-invariant (register.Setting r) h x s a v = setting-keeps-invariant s a v r h x
 register-keeps-invariant (Scaler n) h x s a v = v
 register-keeps-invariant Assign h x s a v = v
 register-keeps-invariant Absent h x s a v = v

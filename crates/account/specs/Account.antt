@@ -20,8 +20,10 @@ use Rattle.registers.specs.Registers.{numberedOf}
 use Rattle.registers.specs.declared.csr.Request.{Request}
 use Rattle.registers.specs.declared.csr.Request.the-variants.{Nothing, Reset, Initialize}
 use Rattle.registers.specs.declared.register.Register.{Register}
-use Rattle.registers.specs.declared.register.Register.the-variants.{Csr, Control, Factor, RocEnable}
-use Rattle.registers.specs.declared.register.Register.the-variants.{Interval, Timer, Scaler, Assign, Absent}
+use Rattle.registers.specs.declared.register.Register.the-variants.{Csr, Scaler, Assign, Absent}
+use Rattle.registers.specs.declared.register.Register.the-variants as register
+use Rattle.registers.specs.declared.register.Setting.{Setting}
+use Rattle.registers.specs.declared.register.Setting.the-variants.{Control, Factor, RocEnable, Interval, Timer}
 use Rattle.branch.specs.Slots.{wordsIn}
 use Rattle.branches.specs.Readout.{noSide}
 use Rattle.sequencer.specs.States.{outcomeWords, isCleared, isEvent, isTag}
@@ -30,8 +32,8 @@ use Rattle.scalers.specs.Scalers.{isSome}
 use Rattle.core.specs.Lines.{hasStrobe}
 use Rattle.core.specs.declared.lines.Inputs.{Inputs}
 use Rattle.supervisor.specs.declared.Answer.{Answer}
-use Rattle.calls.specs.Answers.{Reply, declined, done, value, ticked}
-use Rattle.calls.specs.Runs.{Ask, writeRegister, readRegister, writeMemory, readMemory, tick, Entry}
+use Rattle.declines.specs.Answers.{Reply, declined, done, value, ticked}
+use Rattle.declines.specs.Runs.{Ask, writeRegister, readRegister, writeMemory, readMemory, tick, Entry}
 use Rattle.account.specs.AccountFields.{Sums, Events, Account, withControl, withFactor, withN, withP, put}
 
 -- ---- the start
@@ -125,14 +127,18 @@ abbrev pub afterFactor : (input v : ℕ) → Account → Account
 afterFactor input v a =
     a ▷ withFactor (put (a .factor) (input - 1) v) ▷ withN (put (a .n) (input - 1) 0) ▷ withP (put (a .p) (input - 1) 0)
 
--- [Account.5] [Account.6] every other register leaves it alone
+-- [Account.5] [Account.6] every other setting leaves it alone
+abbrev pub afterSetting : Setting → (v : ℕ) → Account → Account
+afterSetting Control v a = a ▷ withControl v
+afterSetting (Factor input) v a = afterFactor input v a
+afterSetting RocEnable v a = a
+afterSetting Interval v a = a
+afterSetting (Timer n) v a = a
+
+-- [Account.5] and every other register
 abbrev pub afterWrite : Register → (v : ℕ) → Account → Account
 afterWrite Csr v a = afterRequest (requestedOf v) a
-afterWrite Control v a = a ▷ withControl v
-afterWrite (Factor input) v a = afterFactor input v a
-afterWrite RocEnable v a = a
-afterWrite Interval v a = a
-afterWrite (Timer n) v a = a
+afterWrite (register.Setting r) v a = afterSetting r v a
 afterWrite (Scaler n) v a = a
 afterWrite Assign v a = a
 afterWrite Absent v a = a

@@ -22,7 +22,7 @@ use Rattle.branches.specs.ReadoutFields.{branchAt}
 use Rattle.sequencer.specs.States.{isUndecided}
 use Rattle.supervisor.specs.Supervisor.{freshOf}
 use Rattle.supervisor.specs.declared.Supervisor.{Supervisor}
-use Rattle.calls.specs.Runs.{Call, recordAfter, logOf}
+use Rattle.declines.specs.Runs.{Call, recordAfter, logOf}
 use Rattle.account.specs.AccountFields.{Account}
 use Rattle.account.specs.Account.{start, accountOf}
 

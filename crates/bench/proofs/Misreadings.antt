@@ -8,7 +8,7 @@ use Prim.Native.Nat.{ℕ, _+_}
 use mathlib.Core.Path.{_≡_, refl}
 use mathlib.Core.List.{List, [], _∷_, _++_}
 use lib.ListN.{replicate}
-use Rattle.calls.specs.Answers.{Reply}
+use Rattle.declines.specs.Answers.{Reply}
 use Rattle.bench.specs.Asks.{csr, factor, scaler0, forceSync, enableSync, firstController}
 use Rattle.bench.specs.Asks.{write, read, store, pulse, acknowledge, ticks, event, inEvent, class1}
 use Rattle.bench.specs.Sessions.{repliesTo, lost, passed, loaded, shown1, readOut}

@@ -9,8 +9,8 @@ use Rattle.branch.specs.declared.Slot.the-variants as slot
 use Rattle.branches.specs.declared.Side.{Side}
 use Rattle.sequencer.specs.declared.states.Outcome.{Outcome}
 use Rattle.sequencer.specs.declared.states.Outcome.the-variants as outcome
-use Rattle.calls.specs.Answers.{Reply, done, ticked}
-use Rattle.calls.specs.Runs.{Ask}
+use Rattle.declines.specs.Answers.{Reply, done, ticked}
+use Rattle.declines.specs.Runs.{Ask}
 use Rattle.bench.specs.Asks.{csr, control, write, store, pulse, ticks}
 use Rattle.bench.specs.Sessions.{repliesTo}
 use Rattle.bench.proofs.Opened.{machine}

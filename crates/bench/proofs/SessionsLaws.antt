@@ -6,8 +6,8 @@ use Prim.Native.Nat.{ℕ}
 use mathlib.Core.Path.{_≡_, refl, ap}
 use mathlib.Core.List.{List, [], _∷_}
 use Rattle.supervisor.specs.declared.Supervisor.{Supervisor}
-use Rattle.calls.specs.Answers.{Reply}
-use Rattle.calls.specs.Runs.{Ask, askOf, memoryAfter}
+use Rattle.declines.specs.Answers.{Reply}
+use Rattle.declines.specs.Runs.{Ask, askOf, memoryAfter}
 use Rattle.bench.specs.Sessions.{repliesBy, repliesLogged}
 
 pub replies-are-logged : (asks : List Ask) (memory : List ℕ) (s : Supervisor)

@@ -6,7 +6,7 @@ use Prim.Native.Nat.{ℕ, zero, suc, _+_, _-_, _^_}
 use mathlib.Core.List.{List, [], _∷_, _++_}
 use lib.ListN.{replicate}
 use Rattle.core.specs.Lines.{inputsOf}
-use Rattle.calls.specs.Runs.{Ask, writeRegister, readRegister, writeMemory, tick}
+use Rattle.declines.specs.Runs.{Ask, writeRegister, readRegister, writeMemory, tick}
 
 -- ---- the registers, as [Registers.1] numbers them
 

@@ -13,8 +13,8 @@ use mathlib.Core.List.{List, [], _∷_, _++_}
 use lib.Dec.{eqb}
 use lib.ListN.{length, take, drop, replicate}
 use Rattle.bits.specs.Bytes.{isSameOf}
-use Rattle.calls.specs.Answers.{Reply, declineOrZero}
-use Rattle.calls.specs.Runs.{Ask}
+use Rattle.declines.specs.Answers.{Reply, declineOrZero}
+use Rattle.declines.specs.Runs.{Ask}
 use Rattle.bench.specs.Asks.{csr, control, factor, rocEnable, interval, t1, enable, openPrescales}
 use Rattle.bench.specs.Asks.{go, enableSync, useT1, lateFail, firstController, pass2, fail2}
 use Rattle.bench.specs.Asks.{write, read, store, pulse, lines, acknowledge, ticks, times}

@@ -17,9 +17,9 @@ use Rattle.sequencer.specs.States.{isCleared, outcomeWords}
 use Rattle.supervisor.specs.Supervisor.{freshOf}
 use Rattle.supervisor.specs.declared.Supervisor.{Supervisor}
 use Rattle.supervisor.specs.declared.Answer.{Answer}
-use Rattle.calls.specs.Answers.{Reply, declined, done, value, ticked, declineOrZero}
-use Rattle.calls.specs.Runs.{Ask, writeRegister, readRegister, writeMemory, readMemory, tick}
-use Rattle.calls.specs.Runs.{Result, askOf, memoryAfter, zeroMemory, Call, Entry, logOf}
+use Rattle.declines.specs.Answers.{Reply, declined, done, value, ticked, declineOrZero}
+use Rattle.declines.specs.Runs.{Ask, writeRegister, readRegister, writeMemory, readMemory, tick}
+use Rattle.declines.specs.Runs.{Result, askOf, memoryAfter, zeroMemory, Call, Entry, logOf}
 
 -- ---- asks over one memory
 

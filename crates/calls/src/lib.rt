@@ -1,17 +1,21 @@
 // The public calls (document 01, "When a call is declined"). Each takes the record by value, refuses bad input by itself,
 // and hands back the next record with its answer. No call has a `requires`; each contract is an equality with a
-// definition of specs/Calls.antt, for every record and every memory; `write_memory` has one more, for the memory.
+// definition of crate `declines`, for every record and every memory; `write_memory` has one more, for the memory.
 ghost use mathlib.Core.Path.{_≡_};
-ghost use Prim.Native.Nat.{_≤_};
-ghost use Rattle.calls.specs.Answers.{declineNumber};
-ghost use Rattle.calls.specs.Calls.{markedOf, refuse, refuseRead, refuseTick, writeRegisterOf, readRegisterOf};
-ghost use Rattle.calls.specs.Calls.{writeMemoryOf, memoryAfterOf, readMemoryOf, tickOf};
+ghost use Rattle.declines.specs.Calls.{markedOf, refuse, refuseRead, refuseTick, writeRegisterOf, readRegisterOf};
+ghost use Rattle.declines.specs.Calls.{writeMemoryOf, memoryAfterOf, readMemoryOf, tickOf};
 use access::stored;
 use access::written;
 use branch::Slot;
 use branches::Side;
 use core::Masks;
 use core::lines::Inputs;
+use declines::Decline;
+use declines::ReadDone;
+use declines::Reading;
+use declines::TickDone;
+use declines::Verdict;
+use declines::WriteDone;
 use registers::csr::Csr;
 use registers::register::Register;
 use sequencer::states::Outcome;
@@ -25,59 +29,6 @@ pub const MEMORY_PLACES: usize = 4096;
 pub const TRIGGERS_LIMIT: u32 = 4095;
 
 pub const LINES_LIMIT: u32 = 127;
-
-// Why a call is declined; specs/Answers.antt has document 01's number for each.
-pub enum Decline {
-    Spoiled,
-    Length,
-    Place,
-    Active,
-    Value,
-}
-
-impl Decline {
-    // [Declines.1a] document 01's number; the second clause is that it has one digit
-    pub fn number(self) -> u8
-        ensures { λ r. ⌜ r ≡ declineNumber self ⌝ }
-        ensures { λ r. ⌜ r ≤ 9 ⌝ }
-    {
-        match self {
-            Decline::Spoiled => 1,
-            Decline::Length => 2,
-            Decline::Place => 3,
-            Decline::Active => 4,
-            Decline::Value => 5,
-        }
-    }
-}
-
-// The answer to a write, and whether a tick was carried out.
-pub enum Verdict {
-    Done,
-    Declined(Decline),
-}
-
-// The answer to a read.
-pub enum Reading {
-    Value(u32),
-    Declined(Decline),
-}
-
-pub struct WriteDone {
-    pub next: Supervisor,
-    pub answer: Verdict,
-}
-
-pub struct ReadDone {
-    pub next: Supervisor,
-    pub answer: Reading,
-}
-
-pub struct TickDone {
-    pub next: Supervisor,
-    pub answer: Answer,
-    pub verdict: Verdict,
-}
 
 // ---- refusals
 
@@ -153,15 +104,14 @@ pub fn write_register(s: Supervisor, number: u32, value: u32) -> WriteDone
     if s.is_spoiled() {
         return refused(s, Decline::Spoiled);
     }
-    if Register::ASSIGN < number {
+    let register = Register::numbered(number);
+    let facts = register.facts();
+    if !facts.writable {
         return refused(s, Decline::Place);
     }
-    if s.is_active()
-        & ((Register::FIRST_PROTECTED <= number) & (number <= Register::LAST_PROTECTED))
-    {
+    if s.is_active() & facts.protected {
         return refused(marked(s, Csr::WRITE_ERROR), Decline::Active);
     }
-    let register = Register::numbered(number);
     if !register.is_valid_value(value) {
         return refused(s, Decline::Value);
     }
@@ -178,12 +128,14 @@ pub fn read_register(s: Supervisor, number: u32) -> ReadDone
     if s.is_spoiled() {
         return refused_read(s, Decline::Spoiled);
     }
-    if Register::ASSIGN < number {
+    let register = Register::numbered(number);
+    let facts = register.facts();
+    if !facts.readable {
         return refused_read(s, Decline::Place);
     }
     ReadDone {
         next: s,
-        answer: Reading::Value(stored(s, Register::numbered(number))),
+        answer: Reading::Value(stored(s, register)),
     }
 }
 

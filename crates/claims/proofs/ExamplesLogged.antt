@@ -7,9 +7,9 @@ use Prim.Native.Nat.{ℕ}
 use mathlib.Core.Path.{_≡_, refl, ap, _∙_}
 use mathlib.Core.List.{List, [], _∷_}
 use Rattle.supervisor.specs.declared.Supervisor.{Supervisor}
-use Rattle.calls.specs.Answers.{Reply}
-use Rattle.calls.specs.Runs.{Ask, writeRegister, readRegister, writeMemory, readMemory, tick}
-use Rattle.calls.specs.Runs.{Result, askOf, memoryAfter}
+use Rattle.declines.specs.Answers.{Reply}
+use Rattle.declines.specs.Runs.{Ask, writeRegister, readRegister, writeMemory, readMemory, tick}
+use Rattle.declines.specs.Runs.{Result, askOf, memoryAfter}
 use Rattle.bench.specs.Sessions.{answered, repliesBy, repliesLogged}
 use Rattle.bench.proofs.SessionsLaws.{replies-are-logged}
 

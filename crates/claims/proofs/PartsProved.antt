@@ -7,13 +7,15 @@ use Rattle.prescaler.proofs.PrescalerLoadLaws as loads
 use Rattle.sync.proofs.SyncLaws as sync
 use Rattle.sequencer.proofs.MainLaws as main
 use Rattle.branch.proofs.BranchLaws as branch
+use Rattle.declines.proofs.CallsLaws as calls
 use Rattle.claims.specs.Parts.{FactorFitsItsWidth, TimerFitsItsWidth, AssignDeclines40To4F, AssignDeclines60Up}
 use Rattle.claims.specs.Parts.{CsrBitAfterWrite, ClearWins, PulseHasOneFate, LoadStartsPassCount}
 use Rattle.claims.specs.Parts.{PulseKeepsPassCount, PassCountDivides}
 use Rattle.claims.specs.Parts.{FirstPulseIsScaled, FailBeatsPass2, FailBeatsPass3, ToIdleZeroes, IntervalOneIsDue}
 use Rattle.claims.specs.Parts.{SyncLoadKeepsCount, UserSyncEndsExactly, BranchKeepsOrder, StrobeHasWord}
 use Rattle.claims.specs.Parts.{NoneEnabledIsHigh, NoneEnabledIsLow, IntervalFitsItsWidth, ControlFitsItsBits}
-use Rattle.claims.specs.Parts.{Over19IsAbsent, ResetClearsBits0To3, MarksSetStatusBits, SyncHoldEndsARun}
+use Rattle.claims.specs.Parts.{PastLastIsAbsent, FactsByNumber, PlaceForEachPattern, ResetClearsBits0To3}
+use Rattle.claims.specs.Parts.{MarksSetStatusBits, SyncHoldEndsARun}
 use Rattle.claims.specs.Parts.{UserSyncEndsARun, FirstPulseIsScaledAfterReset, ZeroIsPassed, Inputs9To12Pass}
 
 pub factor-fits-its-width : FactorFitsItsWidth
@@ -28,8 +30,14 @@ interval-fits-its-width = registers.interval-fits-iff-no-bit-outside
 pub control-fits-its-bits : ControlFitsItsBits
 control-fits-its-bits = registers.control-fits-iff-no-bit-outside
 
-pub over-19-is-absent : Over19IsAbsent
-over-19-is-absent = registers.over-19-is-absent
+pub past-last-is-absent : PastLastIsAbsent
+past-last-is-absent = registers.past-last-is-absent
+
+pub facts-by-number : FactsByNumber
+facts-by-number = registers.facts-by-number
+
+pub place-for-each-pattern : PlaceForEachPattern
+place-for-each-pattern = calls.place-for-each-pattern
 
 pub assign-declines-40-to-4F : AssignDeclines40To4F
 assign-declines-40-to-4F = registers.assign-declines-40-to-4F

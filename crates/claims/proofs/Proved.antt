@@ -1,8 +1,8 @@
 -- Each claim of specs/Claims.antt, proved in one line by the theorem that it restates.
 -- Assumes nothing.
 use Rattle.branches.specs.Readout.{moduleBranches}
-use Rattle.calls.specs.Runs.{zeroMemory}
-use Rattle.calls.proofs.CallsLaws.{declines-in-order, refusal-leaves, refusal-leaves-memory, spoiled-declines-all}
+use Rattle.declines.specs.Runs.{zeroMemory}
+use Rattle.declines.proofs.CallsLaws.{declines-in-order, refusal-leaves, refusal-leaves-memory, spoiled-declines-all}
 use Rattle.account.proofs.Theorem.{every-run-balances, any-two-branches}
 use Rattle.reach.proofs.Never.{call-keeps-unspoiled, never-spoiled}
 use Rattle.bench.specs.Sessions.{fresh}

@@ -5,11 +5,11 @@
 -- and, for fresh, in `supervisor`. Each is an equality with the definition named here, for every record, every memory of any
 -- length and every argument, and none has a `requires`:
 --     Supervisor::fresh      supervisor/specs/Supervisor, freshOf at moduleBranches, which is four
---     write_register         calls/specs/Calls, writeRegisterOf
---     read_register          calls/specs/Calls, readRegisterOf
---     write_memory           calls/specs/Calls, writeMemoryOf, and memoryAfterOf for the memory after it
---     read_memory            calls/specs/Calls, readMemoryOf; the memory is lent for reading only
---     tick                   calls/specs/Calls, tickOf; the memory is lent for reading only
+--     write_register         declines/specs/Calls, writeRegisterOf
+--     read_register          declines/specs/Calls, readRegisterOf
+--     write_memory           declines/specs/Calls, writeMemoryOf, and memoryAfterOf for the memory after it
+--     read_memory            declines/specs/Calls, readMemoryOf; the memory is lent for reading only
+--     tick                   declines/specs/Calls, tickOf; the memory is lent for reading only
 -- The console's contract is proved in `script`, for every script:
 --     answers                script/specs/Script, answersOf: the bytes printed, which always fit; the rest of the buffer
 --                            is left open
@@ -24,9 +24,9 @@ use lib.ListN.{length}
 use Rattle.branches.specs.Readout.{moduleBranches}
 use Rattle.supervisor.specs.Supervisor.{isSpoiledOf}
 use Rattle.supervisor.specs.declared.Supervisor.{Supervisor}
-use Rattle.calls.specs.Answers.{declined, declineOrZero}
-use Rattle.calls.specs.Runs.{Ask, Call, askOf, memoryAfter, zeroMemory}
-use Rattle.calls.specs.Refusals.{refusalsOf, firstOf, statusBit, Leaves}
+use Rattle.declines.specs.Answers.{declined, declineOrZero}
+use Rattle.declines.specs.Runs.{Ask, Call, askOf, memoryAfter, zeroMemory}
+use Rattle.declines.specs.Refusals.{refusalsOf, firstOf, statusBit, Leaves}
 use Rattle.account.specs.Demand3.{Demand3, wordsOf}
 use Rattle.reach.specs.NeverSpoiled.{OfType, KeepsUnspoiled, NeverSpoiled}
 use Rattle.bench.specs.Bench.{examples, allRight}
@@ -40,7 +40,7 @@ use Rattle.reader.specs.declared.Command.{Command}
 -- ---- demand 1, beside the contracts
 
 -- [Declines.1a] A call is refused by the first of its tests that fails, with that test's number; where none fails it is
--- carried out. calls/specs/Refusals has the tests of every call in document 01's order.
+-- carried out. declines/specs/Refusals has the tests of every call in document 01's order.
 abbrev pub RefusesInOrder : Type 0
 RefusesInOrder =
     (a : Ask) (memory : List ℕ) (s : Supervisor) → declineOrZero (askOf a memory s .reply) ≡ firstOf (refusalsOf a memory s)

@@ -1,7 +1,7 @@
 -- What is claimed of the parts, each by itself and for every value of its types: the rules of document 01 that a part keeps
 -- whatever stands around it. proofs/PartsProved.antt proves each by citing its law.
 -- Assumes nothing.
-use Prim.Native.Nat.{ℕ, _+_, _/_, _<_, _≤_}
+use Prim.Native.Nat.{ℕ, _+_, _/_, _^_, _<_, _≤_}
 use mathlib.Core.Path.{_≡_}
 use mathlib.Core.Bool.{Bool, true, false, not, _&&_, _||_}
 use mathlib.Core.List.{_++_}
@@ -12,7 +12,8 @@ use Rattle.bits.specs.Bits.{bitAt, oneIfOf, NoBitOutside, NoBitOutsideOf}
 use Rattle.registers.specs.Csr as csr
 use Rattle.registers.specs.Control.{inputs}
 use Rattle.registers.specs.CsrBits.{isStatusBit, bitAfter}
-use Rattle.registers.specs.Registers.{numberedOf, factorWidth, timerWidth, intervalWidth, controlBits}
+use Rattle.registers.specs.Registers.{lastRegister, numberedOf, facts, factsOf}
+use Rattle.registers.specs.Registers.{factorWidth, timerWidth, intervalWidth, controlBits}
 use Rattle.registers.specs.Registers.{isValidControl, isValidFactor, isValidInterval, isValidTimer, isValidAssign}
 use Rattle.registers.specs.declared.csr.Request.the-variants.{Reset}
 use Rattle.registers.specs.declared.register.Register.the-variants.{Absent}
@@ -34,6 +35,7 @@ use Rattle.branch.specs.Slots.{wordsIn}
 use Rattle.branch.specs.declared.Branch.{Branch}
 use Rattle.branch.specs.declared.Phase.the-variants.{Strobe}
 use Rattle.branch.specs.declared.Slot.{Slot}
+use Rattle.declines.specs.Calls.{memoryPlaces}
 
 -- ---- registers
 
@@ -52,9 +54,17 @@ IntervalFitsItsWidth = (v : ℕ) → (isValidInterval v ≡ true) ↔ NoBitOutsi
 abbrev pub ControlFitsItsBits : Type 0
 ControlFitsItsBits = (v : ℕ) → (isValidControl v ≡ true) ↔ NoBitOutsideOf controlBits v
 
--- [Declines.2b] A number over 19 names no register.
-abbrev pub Over19IsAbsent : Type 0
-Over19IsAbsent = (n : ℕ) → 19 < n → numberedOf n ≡ Absent
+-- [Declines.2b] A number past the last names no register.
+abbrev pub PastLastIsAbsent : Type 0
+PastLastIsAbsent = (n : ℕ) → lastRegister < n → numberedOf n ≡ Absent
+
+-- [Declines.2b] [Declines.2c] [Declines.3a] Registers 0–19 are read and written, and 1–16 are protected while active.
+abbrev pub FactsByNumber : Type 0
+FactsByNumber = (n : ℕ) → factsOf (numberedOf n) ≡ facts (leb n 19) (leb n 19) (leb 1 n && leb n 16)
+
+-- [Memory.1] The memory has a place for each pattern of the twelve inputs.
+abbrev pub PlaceForEachPattern : Type 0
+PlaceForEachPattern = memoryPlaces ≡ 2 ^ inputs
 
 -- [Assign.1] The assign codes 40h–4Fh, and those from 60h, name nothing.
 abbrev pub AssignDeclines40To4F : Type 0

@@ -2,11 +2,11 @@
 // with the lines out; outcome; finished words; shown words.
 use branch::Slot;
 use branches::Side;
-use calls::ReadDone;
-use calls::Reading;
-use calls::TickDone;
-use calls::Verdict;
-use calls::WriteDone;
+use declines::ReadDone;
+use declines::Reading;
+use declines::TickDone;
+use declines::Verdict;
+use declines::WriteDone;
 use numbers::record_out::wide;
 use sequencer::states::Outcome;
 use supervisor::Supervisor;

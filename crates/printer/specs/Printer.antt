@@ -15,7 +15,7 @@ use Rattle.branches.specs.declared.Side.{Side}
 use Rattle.sequencer.specs.declared.states.Outcome.{Outcome}
 use Rattle.sequencer.specs.declared.states.Outcome.the-variants.{Nothing, Cleared, Event, Tag}
 use Rattle.supervisor.specs.declared.Answer.{Answer}
-use Rattle.calls.specs.Answers.{Reply, declined, done, value, ticked}
+use Rattle.declines.specs.Answers.{Reply, declined, done, value, ticked}
 use Rattle.text.specs.Text.{newline, space, hex}
 
 -- ---- fields

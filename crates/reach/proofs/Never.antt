@@ -11,11 +11,11 @@ use mathlib.Core.List.{List, [], _∷_}
 use Rattle.registers.specs.Registers.{numberedOf}
 use Rattle.supervisor.specs.Supervisor.{freshOf, isSpoiledOf}
 use Rattle.supervisor.specs.declared.Supervisor.{Supervisor}
-use Rattle.calls.specs.Answers.{Reply}
-use Rattle.calls.specs.Calls.{markedOf}
-use Rattle.calls.specs.Runs.{Ask, Call, callOf, recordAfter}
-use Rattle.calls.proofs.CallEnds.{End, refused, refusedActive, wrote, gave, stored, ran, call-ends}
-use Rattle.calls.specs.Refusals.{statusBit}
+use Rattle.declines.specs.Answers.{Reply}
+use Rattle.declines.specs.Calls.{markedOf}
+use Rattle.declines.specs.Runs.{Ask, Call, callOf, recordAfter}
+use Rattle.declines.proofs.CallEnds.{End, refused, refusedActive, wrote, gave, stored, ran, call-ends}
+use Rattle.declines.specs.Refusals.{statusBit}
 use Rattle.reach.specs.NeverSpoiled.{OfType, KeepsUnspoiled, NeverSpoiled}
 use Rattle.reach.proofs.Sound.{Unspoiled, unspoiled-from-test, unspoiled-to-test}
 use Rattle.reach.proofs.TickSound.{tick-keeps-type, tick-keeps-unspoiled}

@@ -17,13 +17,15 @@ use Rattle.bits.specs.Notation.{_▷_}
 use Rattle.bits.proofs.TestLaws.{every-at, at-every, by-cond}
 use Rattle.registers.specs.Csr as csr
 use Rattle.registers.proofs.CsrLaws as csrLaws
-use Rattle.registers.specs.Registers.{isValidValue, isValidFactor, isValidAssign}
+use Rattle.registers.specs.Registers.{isValidValue, isValidSetting, isValidFactor, isValidAssign}
 use Rattle.registers.specs.declared.csr.Csr.{Csr}
 use Rattle.registers.specs.declared.csr.CsrWrite.{CsrWrite}
 use Rattle.registers.specs.declared.csr.Request.{Request}
 use Rattle.registers.specs.declared.csr.Request.the-variants.{Nothing, Reset, Initialize}
 use Rattle.registers.specs.declared.register.Register.{Register}
 use Rattle.registers.specs.declared.register.Register.the-variants as register
+use Rattle.registers.specs.declared.register.Setting.{Setting}
+use Rattle.registers.specs.declared.register.Setting.the-variants.{Control, Factor, RocEnable, Interval, Timer}
 use Rattle.prescaler.specs.PrescalerFields.{factorAt}
 use Rattle.prescaler.specs.Prescaler as prescaler
 use Rattle.prescaler.specs.Prescaler.{EightPlaces}
@@ -36,12 +38,12 @@ use Rattle.branches.specs.Readout as readout
 use Rattle.branches.proofs.ReadoutLaws as laws
 use Rattle.scalers.specs.Scalers as scalers
 use Rattle.scalers.specs.declared.Scalers.{Scalers}
-use Rattle.core.specs.CoreFields.{withCsr}
+use Rattle.core.specs.CoreFields.{withCsr, withScalers}
 use Rattle.core.specs.Core as core
 use Rattle.supervisor.specs.Supervisor.{withCore, freshOf, initializedOf, resetOf}
 use Rattle.supervisor.specs.declared.Supervisor.{Supervisor}
-use Rattle.access.specs.Access.{afterCsrOf, csrWrittenOf, coreWrittenOf, writtenOf}
-use Rattle.calls.specs.Calls.{markedOf}
+use Rattle.access.specs.Access.{afterCsrOf, csrWrittenOf, coreSetOf, readoutSetOf, settingWrittenOf, writtenOf}
+use Rattle.declines.specs.Calls.{markedOf}
 use Rattle.reach.specs.NeverSpoiled.{OfType}
 use Rattle.reach.proofs.Sound.{SoundCore, SoundBranch, Unspoiled}
 use Rattle.reach.proofs.CoreSound.{reset-keeps-sound, fresh-is-sound}
@@ -132,14 +134,13 @@ zeroed-keeps-assign : (n : ℕ) (x : Scalers) → isValidAssign (x .assign) ≡ 
 zeroed-keeps-assign n x h = by-cond (λ (y : Scalers). isValidAssign (y .assign) ≡ true) (eqb n 0) (λ e. h) (λ e. h)
 
 module _ (s : Supervisor) (ofType : OfType s) (u : Unspoiled s) where
-  -- the registers of the core but for the CSR: none touches main, the user sync or the CSR
-  core-keeps-sound : (r : Register) (v : ℕ) → isValidValue r v ≡ true → SoundCore (coreWrittenOf r v (s .core))
-  unfolding coreWrittenOf
-  core-keeps-sound register.Csr v valid = u .core
-  core-keeps-sound register.Control v valid =
+  -- a setting touches neither main, the user sync nor the CSR
+  setting-keeps-sound : (r : Setting) (v : ℕ) → isValidSetting r v ≡ true → SoundCore (coreSetOf r v (s .core))
+  unfolding coreSetOf
+  setting-keeps-sound Control v valid =
       let c = u .core in
       record { counters = c .counters; factors = c .factors; csr = c .csr; control = valid; assign = c .assign; main = c .main; count = c .count; waits = c .waits }
-  core-keeps-sound (register.Factor input) v valid =
+  setting-keeps-sound (Factor input) v valid =
       let c = u .core in
       let b = s .core .prescalers in
       record {
@@ -152,38 +153,40 @@ module _ (s : Supervisor) (ofType : OfType s) (u : Unspoiled s) where
         count = c .count;
         waits = c .waits;
       }
-  core-keeps-sound register.RocEnable v valid = u .core
-  core-keeps-sound register.Interval v valid =
+  setting-keeps-sound RocEnable v valid = u .core
+  setting-keeps-sound Interval v valid =
       let c = u .core in
       record { counters = c .counters; factors = c .factors; csr = c .csr; control = c .control; assign = c .assign; main = c .main; count = c .count; waits = c .waits }
-  core-keeps-sound (register.Timer n) v valid =
+  setting-keeps-sound (Timer n) v valid =
       let c = u .core in
       record { counters = c .counters; factors = c .factors; csr = c .csr; control = c .control; assign = c .assign; main = c .main; count = c .count; waits = c .waits }
-  core-keeps-sound (register.Scaler n) v valid =
-      let c = u .core in
-      record { counters = c .counters; factors = c .factors; csr = c .csr; control = c .control; assign = zeroed-keeps-assign n (s .core .scalers) (c .assign); main = c .main; count = c .count; waits = c .waits }
-  core-keeps-sound register.Assign v valid =
-      let c = u .core in
-      record { counters = c .counters; factors = c .factors; csr = c .csr; control = c .control; assign = valid; main = c .main; count = c .count; waits = c .waits }
-  core-keeps-sound register.Absent v valid = u .core
 
-  -- such a write leaves the branches and what they may hold
-  with-core : (r : Register) (v : ℕ) → isValidValue r v ≡ true
-      → core.allowsEightOf (coreWrittenOf r v (s .core)) ≡ core.allowsEightOf (s .core)
-      → Unspoiled (s ▷ withCore (coreWrittenOf r v (s .core)))
-  with-core r v valid eight =
-      record { core = core-keeps-sound r v valid; branches = rw eight (u .branches) }
+  -- nor the branches and what they may hold
+  setting-keeps-unspoiled : (r : Setting) (v : ℕ) → isValidSetting r v ≡ true → Unspoiled (settingWrittenOf r v s)
+  unfolding coreSetOf readoutSetOf
+  setting-keeps-unspoiled Control v valid = record { core = setting-keeps-sound Control v valid; branches = u .branches }
+  setting-keeps-unspoiled (Factor input) v valid =
+      record { core = setting-keeps-sound (Factor input) v valid; branches = u .branches }
+  setting-keeps-unspoiled RocEnable v valid = record { core = u .core; branches = u .branches }
+  setting-keeps-unspoiled Interval v valid = record { core = setting-keeps-sound Interval v valid; branches = u .branches }
+  setting-keeps-unspoiled (Timer n) v valid = record { core = setting-keeps-sound (Timer n) v valid; branches = u .branches }
+
+  -- other scalers with a valid assign code
+  with-scalers : (x : Scalers) → isValidAssign (x .assign) ≡ true → Unspoiled (s ▷ withCore (s .core ▷ withScalers x))
+  with-scalers x valid =
+      let c = u .core in
+      record {
+        core = record { counters = c .counters; factors = c .factors; csr = c .csr; control = c .control; assign = valid; main = c .main; count = c .count; waits = c .waits };
+        branches = u .branches;
+      }
 
   pub write-keeps-unspoiled : (r : Register) (v : ℕ) → isValidValue r v ≡ true → Unspoiled (writtenOf r v s)
-  unfolding writtenOf coreWrittenOf
+  unfolding writtenOf
   write-keeps-unspoiled register.Csr v valid = csr-keeps-unspoiled v s u
-  write-keeps-unspoiled register.Control v valid = with-core register.Control v valid refl
-  write-keeps-unspoiled (register.Factor input) v valid = with-core (register.Factor input) v valid refl
-  write-keeps-unspoiled register.RocEnable v valid = record { core = u .core; branches = u .branches }
-  write-keeps-unspoiled register.Interval v valid = with-core register.Interval v valid refl
-  write-keeps-unspoiled (register.Timer n) v valid = with-core (register.Timer n) v valid refl
-  write-keeps-unspoiled (register.Scaler n) v valid = with-core (register.Scaler n) v valid refl
-  write-keeps-unspoiled register.Assign v valid = with-core register.Assign v valid refl
+  write-keeps-unspoiled (register.Setting r) v valid = setting-keeps-unspoiled r v valid
+  write-keeps-unspoiled (register.Scaler n) v valid =
+      with-scalers (scalers.zeroedOf n (s .core .scalers)) (zeroed-keeps-assign n (s .core .scalers) (u .core .assign))
+  write-keeps-unspoiled register.Assign v valid = with-scalers (s .core .scalers ▷ scalers.withAssign v) valid
   write-keeps-unspoiled register.Absent v valid = u
 
   -- ---- and the types
@@ -195,19 +198,23 @@ module _ (s : Supervisor) (ofType : OfType s) (u : Unspoiled s) where
       record { eight = loadLaws.reloaded-keeps-lengths (s .core .prescalers) (ofType .eight); interval = ofType .interval }
   of-request Nothing w = record { eight = ofType .eight; interval = ofType .interval }
 
-  pub write-keeps-type : (r : Register) (v : ℕ) → OfType (writtenOf r v s)
-  unfolding writtenOf coreWrittenOf csrWrittenOf
-  write-keeps-type register.Csr v =
-      of-request (csr.writtenOf v (s .core .csr) .request) (csr.writtenOf v (s .core .csr))
-  write-keeps-type register.Control v = record { eight = ofType .eight; interval = ofType .interval }
-  write-keeps-type (register.Factor input) v =
+  setting-keeps-type : (r : Setting) (v : ℕ) → OfType (settingWrittenOf r v s)
+  unfolding coreSetOf readoutSetOf
+  setting-keeps-type Control v = record { eight = ofType .eight; interval = ofType .interval }
+  setting-keeps-type (Factor input) v =
       record {
         eight = loadLaws.with-factor-keeps-lengths input v (s .core .prescalers) (ofType .eight);
         interval = ofType .interval;
       }
-  write-keeps-type register.RocEnable v = record { eight = ofType .eight; interval = ofType .interval }
-  write-keeps-type register.Interval v = record { eight = ofType .eight; interval = mod-lt v (pow-pos 16) }
-  write-keeps-type (register.Timer n) v = record { eight = ofType .eight; interval = ofType .interval }
+  setting-keeps-type RocEnable v = record { eight = ofType .eight; interval = ofType .interval }
+  setting-keeps-type Interval v = record { eight = ofType .eight; interval = mod-lt v (pow-pos 16) }
+  setting-keeps-type (Timer n) v = record { eight = ofType .eight; interval = ofType .interval }
+
+  pub write-keeps-type : (r : Register) (v : ℕ) → OfType (writtenOf r v s)
+  unfolding writtenOf csrWrittenOf
+  write-keeps-type register.Csr v =
+      of-request (csr.writtenOf v (s .core .csr) .request) (csr.writtenOf v (s .core .csr))
+  write-keeps-type (register.Setting r) v = setting-keeps-type r v
   write-keeps-type (register.Scaler n) v = record { eight = ofType .eight; interval = ofType .interval }
   write-keeps-type register.Assign v = record { eight = ofType .eight; interval = ofType .interval }
   write-keeps-type register.Absent v = ofType

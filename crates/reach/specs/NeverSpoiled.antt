@@ -15,7 +15,7 @@ use mathlib.Core.List.{List}
 use Rattle.prescaler.specs.Prescaler.{EightPlaces}
 use Rattle.supervisor.specs.Supervisor.{freshOf, isSpoiledOf}
 use Rattle.supervisor.specs.declared.Supervisor.{Supervisor}
-use Rattle.calls.specs.Runs.{Call, callOf, recordAfter}
+use Rattle.declines.specs.Runs.{Call, callOf, recordAfter}
 
 pub record OfType (s : Supervisor) : Type 0 where
   -- the factors and the counters are arrays of eight

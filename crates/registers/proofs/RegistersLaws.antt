@@ -2,26 +2,30 @@
 --     factor-, timer-, interval-fits-iff-no-bit-outside   the width law of bits, at 20, 14, 16 and 8 bits
 --     control-fits-iff-no-bit-outside    the mask law of bits, for control
 --     assign-declines-40-to-4F, assign-declines-60-up     the codes that 01 does not list
---     over-19-is-absent                  a number over 19 names no register
---     Between, InRange                   what is said of a register that a number names
+--     Between, Named, number-names       the numbers of each kind of register: the walk that the others go by
+--     past-last-is-absent                a number past the last names no register
+--     facts-by-number                    the facts of a number's register, by comparisons of the number
 --     numbered-is-in-range               a number names factor 1–8, timer 1–5, scaler 0 or 1, or another one
 -- Assumes nothing.
-use Prim.Native.Nat.{ℕ, _<_, _≤_}
-use mathlib.Core.Path.{_≡_}
+use Prim.Native.Nat.{ℕ, _-_, _<_, _≤_}
+use mathlib.Core.Path.{_≡_, refl}
 use mathlib.Core.Logic.{_↔_}
-use mathlib.Core.Bool.{true, false}
+use mathlib.Core.Bool.{true, false, _&&_}
 use native.Mathlib.Omega.{arith}
-use lib.Dec.{eqb, ltb}
-use borrow.Author.Tests.{lt-leb, le-ltb, ne-eqb, le-leb, ltb-true, ltb-false, eqb-false}
+use lib.Dec.{eqb, ltb, leb}
+use borrow.Author.Tests.{lt-leb, le-leb, ltb-true, ltb-false, eqb-true, eqb-false}
 use Rattle.bits.specs.Bits.{NoBitOutside, NoBitOutsideOf}
 use Rattle.bits.proofs.TestLaws.{by-cond}
 use Rattle.bits.proofs.WidthLaws.{fits-iff-no-bit-outside, only-iff-no-bit-outside}
-use Rattle.registers.specs.Registers.{numberedOf, factorWidth, timerWidth, intervalWidth, controlBits}
+use Rattle.registers.specs.Registers.{lastRegister, numberedOf, facts, factsOf}
+use Rattle.registers.specs.Registers.{factorWidth, timerWidth, intervalWidth, controlBits}
 use Rattle.registers.specs.Registers.{isValidControl, isValidFactor}
 use Rattle.registers.specs.Registers.{isValidInterval, isValidTimer, isValidAssign}
 use Rattle.registers.specs.declared.register.Register.{Register}
-use Rattle.registers.specs.declared.register.Register.the-variants.{Csr, Control, Factor, RocEnable}
-use Rattle.registers.specs.declared.register.Register.the-variants.{Interval, Timer, Scaler, Assign, Absent}
+use Rattle.registers.specs.declared.register.Setting.{Setting}
+use Rattle.registers.specs.declared.register.Setting.the-variants.{Control, Factor, RocEnable, Interval, Timer}
+use Rattle.registers.specs.declared.register.Register.the-variants.{Csr, Scaler, Assign, Absent}
+use Rattle.registers.specs.declared.register.Register.the-variants as register
 
 -- ---- no bit outside the register
 
@@ -45,61 +49,89 @@ assign-declines-40-to-4F v h k = rw (lt-leb v 63 h, lt-leb 80 v k)
 pub assign-declines-60-up : (v : ℕ) → 96 ≤ v → isValidAssign v ≡ false
 assign-declines-60-up v h = rw (lt-leb v 63 (omega arith), le-leb 80 v (omega arith), lt-leb v 95 h)
 
--- ---- numbers
-
-pub over-19-is-absent : (n : ℕ) → 19 < n → numberedOf n ≡ Absent
-unfolding numberedOf
-over-19-is-absent n h =
-    rw (
-      ne-eqb n 0 (λ e. omega arith),
-      ne-eqb n 1 (λ e. omega arith),
-      le-ltb n 10 (omega arith),
-      ne-eqb n 10 (λ e. omega arith),
-      ne-eqb n 11 (λ e. omega arith),
-      le-ltb n 17 (omega arith),
-      le-ltb n 19 (omega arith),
-      ne-eqb n 19 (λ e. omega arith),
-    )
+-- ---- numbers: walked once
 
 pub record Between (low high n : ℕ) : Type 0 where
   pub least : low ≤ n
   pub most : n ≤ high
 
+-- [Registers.1] the factors and timers that there are
+abbrev pub SettingInRange : Setting → Type 0
+SettingInRange Control = Unit {0}
+SettingInRange (Factor input) = Between 1 8 input
+SettingInRange RocEnable = Unit {0}
+SettingInRange Interval = Unit {0}
+SettingInRange (Timer n) = Between 1 5 n
+
+-- the register of the number n, with the numbers of its kind
+pub data Named (n : ℕ) : Register → Type 0 where
+  csr : n ≡ 0 → Named n Csr
+  setting : (r : Setting) → Between 1 16 n → SettingInRange r → Named n (register.Setting r)
+  scaler : (k : ℕ) → Between 17 18 n → Between 0 1 k → Named n (Scaler k)
+  assign : n ≡ 19 → Named n Assign
+  absent : lastRegister < n → Named n Absent
+
+pub number-names : (n : ℕ) → Named n (numberedOf n)
+unfolding numberedOf
+number-names n =
+    by-cond (Named n) (eqb n 0) (λ e. csr (eqb-true n 0 e)) (λ not0.
+    let above0 : (n ≡ 0 → ⊥) = eqb-false n 0 not0 in
+    by-cond (Named n) (eqb n 1) (λ e. let at : n ≡ 1 = eqb-true n 1 e in setting Control (record { least = omega arith; most = omega arith }) tt) (λ not1.
+    let above1 : (n ≡ 1 → ⊥) = eqb-false n 1 not1 in
+    by-cond (Named n) (ltb n 10) (λ e. let below : n < 10 = ltb-true n 10 e in setting (Factor (n - 1)) (record { least = omega arith; most = omega arith }) (record { least = omega arith; most = omega arith })) (λ from10.
+    let above : 10 ≤ n = ltb-false n 10 from10 in
+    by-cond (Named n) (eqb n 10) (λ e. let at : n ≡ 10 = eqb-true n 10 e in setting RocEnable (record { least = omega arith; most = omega arith }) tt) (λ not10.
+    let above10 : (n ≡ 10 → ⊥) = eqb-false n 10 not10 in
+    by-cond (Named n) (eqb n 11) (λ e. let at : n ≡ 11 = eqb-true n 11 e in setting Interval (record { least = omega arith; most = omega arith }) tt) (λ not11.
+    let above11 : (n ≡ 11 → ⊥) = eqb-false n 11 not11 in
+    by-cond (Named n) (ltb n 17) (λ e. let below : n < 17 = ltb-true n 17 e in setting (Timer (n - 11)) (record { least = omega arith; most = omega arith }) (record { least = omega arith; most = omega arith })) (λ from17.
+    let above16 : 17 ≤ n = ltb-false n 17 from17 in
+    by-cond (Named n) (ltb n 19) (λ e. let below : n < 19 = ltb-true n 19 e in scaler (n - 17) (record { least = omega arith; most = omega arith }) (record { least = omega arith; most = omega arith })) (λ from19.
+    let above18 : 19 ≤ n = ltb-false n 19 from19 in
+    by-cond (Named n) (eqb n lastRegister) (λ e. assign (eqb-true n lastRegister e)) (λ not19.
+    let above19 : (n ≡ 19 → ⊥) = eqb-false n lastRegister not19 in
+    absent (omega arith)))))))))
+
+-- ---- what follows of a number's register
+
+-- [Declines.2b]
+pub past-last-is-absent : (n : ℕ) → lastRegister < n → numberedOf n ≡ Absent
+past-last-is-absent n past = go (number-names n)
+  where
+    go : {r : Register} → Named n r → r ≡ Absent
+    go (csr e) = absurd (omega arith)
+    go (setting r at range) = absurd (omega (arith, at .most))
+    go (scaler k at range) = absurd (omega (arith, at .most))
+    go (assign e) = absurd (omega arith)
+    go (absent h) = refl
+
+-- [Declines.2b] [Declines.2c] [Declines.3a] 0–19 are read and written, 1–16 are protected
+pub facts-by-number : (n : ℕ) → factsOf (numberedOf n) ≡ facts (leb n 19) (leb n 19) (leb 1 n && leb n 16)
+facts-by-number n = go (number-names n)
+  where
+    go : {r : Register} → Named n r → factsOf r ≡ facts (leb n 19) (leb n 19) (leb 1 n && leb n 16)
+    go (csr e) = rw e
+    go (setting r at range) =
+        rw (le-leb 1 n (at .least), le-leb n 16 (at .most), le-leb n 19 (omega (arith, at .most)))
+    go (scaler k at range) =
+        rw (le-leb 1 n (omega (arith, at .least)), lt-leb n 16 (at .least), le-leb n 19 (omega (arith, at .most)))
+    go (assign e) = rw e
+    go (absent h) = rw (le-leb 1 n (omega arith), lt-leb n 16 (omega arith), lt-leb n 19 h)
+
 -- [Registers.1] the factors, timers and scalers that there are
 abbrev pub InRange : Register → Type 0
 InRange Csr = Unit {0}
-InRange Control = Unit {0}
-InRange (Factor input) = Between 1 8 input
-InRange RocEnable = Unit {0}
-InRange Interval = Unit {0}
-InRange (Timer n) = Between 1 5 n
+InRange (register.Setting r) = SettingInRange r
 InRange (Scaler n) = Between 0 1 n
 InRange Assign = Unit {0}
 InRange Absent = Unit {0}
 
 pub numbered-is-in-range : (n : ℕ) → InRange (numberedOf n)
-unfolding numberedOf
-numbered-is-in-range n =
-    by-cond InRange (eqb n 0) (λ e. tt) (λ not0.
-    by-cond InRange (eqb n 1) (λ e. tt) (λ not1.
-    by-cond InRange (ltb n 10)
-    (λ e.
-    let above0 : (n ≡ 0 → ⊥) = eqb-false n 0 not0 in
-    let above1 : (n ≡ 1 → ⊥) = eqb-false n 1 not1 in
-    let below : n < 10 = ltb-true n 10 e in
-    record { least = omega arith; most = omega arith }) (λ from10.
-    by-cond InRange (eqb n 10) (λ e. tt) (λ not10.
-    by-cond InRange (eqb n 11) (λ e. tt) (λ not11.
-    by-cond InRange (ltb n 17)
-    (λ e.
-    let above : 10 ≤ n = ltb-false n 10 from10 in
-    let above10 : (n ≡ 10 → ⊥) = eqb-false n 10 not10 in
-    let above11 : (n ≡ 11 → ⊥) = eqb-false n 11 not11 in
-    let below : n < 17 = ltb-true n 17 e in
-    record { least = omega arith; most = omega arith }) (λ from17.
-    by-cond InRange (ltb n 19)
-    (λ e.
-    let above : 17 ≤ n = ltb-false n 17 from17 in
-    let below : n < 19 = ltb-true n 19 e in
-    record { least = omega arith; most = omega arith }) (λ from19.
-    by-cond InRange (eqb n 19) (λ e. tt) (λ e. tt))))))))
+numbered-is-in-range n = go (number-names n)
+  where
+    go : {r : Register} → Named n r → InRange r
+    go (csr e) = tt
+    go (setting r at range) = range
+    go (scaler k at range) = range
+    go (assign e) = tt
+    go (absent h) = tt

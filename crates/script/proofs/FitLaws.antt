@@ -19,12 +19,12 @@ use Rattle.sequencer.specs.declared.states.Outcome.{Outcome}
 use Rattle.sequencer.specs.declared.states.Outcome.the-variants.{Nothing, Cleared, Event, Tag}
 use Rattle.supervisor.specs.declared.Answer.{Answer}
 use Rattle.core.specs.Lines.{inputsOf}
-use Rattle.calls.specs.Answers.{verdictReply, readingReply, tickReply}
-use Rattle.calls.specs.Calls.{writeRegisterOf, readRegisterOf, writeMemoryOf, readMemoryOf, tickOf}
-use Rattle.calls.specs.declared.Verdict.{Verdict}
-use Rattle.calls.specs.declared.Verdict.the-variants.{Done, Declined}
-use Rattle.calls.specs.declared.Reading.{Reading}
-use Rattle.calls.specs.declared.Reading.the-variants as reading
+use Rattle.declines.specs.Answers.{verdictReply, readingReply, tickReply}
+use Rattle.declines.specs.Calls.{writeRegisterOf, readRegisterOf, writeMemoryOf, readMemoryOf, tickOf}
+use Rattle.declines.specs.declared.Verdict.{Verdict}
+use Rattle.declines.specs.declared.Verdict.the-variants.{Done, Declined}
+use Rattle.declines.specs.declared.Reading.{Reading}
+use Rattle.declines.specs.declared.Reading.the-variants as reading
 use Rattle.text.proofs.PageLaws.{hex-length}
 use Rattle.reader.specs.Reader.{hasFieldOf, hasFields, hasForm, numberAt, commandOf, byteOf}
 use Rattle.reader.specs.Reader.{isWriteRegisterOf, isReadRegisterOf, isWriteMemoryOf, isReadMemoryOf, isTickOf}

@@ -20,14 +20,14 @@ use Rattle.sequencer.specs.declared.states.Outcome.{Outcome}
 use Rattle.sequencer.specs.declared.states.Outcome.the-variants.{Nothing, Cleared, Event, Tag}
 use Rattle.supervisor.specs.declared.Answer.{Answer}
 use Rattle.core.specs.Lines.{inputsOf}
-use Rattle.calls.specs.Answers.{declineNumber, verdictReply, readingReply, tickReply}
-use Rattle.calls.specs.Calls.{writeRegisterOf, readRegisterOf, writeMemoryOf, readMemoryOf, tickOf}
-use Rattle.calls.specs.declared.Decline.{Decline}
-use Rattle.calls.specs.declared.Decline.the-variants.{Spoiled, Length, Place, Active, Value}
-use Rattle.calls.specs.declared.Verdict.{Verdict}
-use Rattle.calls.specs.declared.Verdict.the-variants.{Done, Declined}
-use Rattle.calls.specs.declared.Reading.{Reading}
-use Rattle.calls.specs.declared.Reading.the-variants as reading
+use Rattle.declines.specs.Answers.{declineNumber, verdictReply, readingReply, tickReply}
+use Rattle.declines.specs.Calls.{writeRegisterOf, readRegisterOf, writeMemoryOf, readMemoryOf, tickOf}
+use Rattle.declines.specs.declared.Decline.{Decline}
+use Rattle.declines.specs.declared.Decline.the-variants.{Spoiled, Length, Place, Active, Value}
+use Rattle.declines.specs.declared.Verdict.{Verdict}
+use Rattle.declines.specs.declared.Verdict.the-variants.{Done, Declined}
+use Rattle.declines.specs.declared.Reading.{Reading}
+use Rattle.declines.specs.declared.Reading.the-variants as reading
 use Rattle.text.specs.Text.{newline, space, hexDigit, hex, isDecimal, isCapital}
 use Rattle.reader.specs.Reader.{commandOf}
 use Rattle.printer.specs.Printer.{outcomeText, slotText, sideAt, fieldsOf, spaced, replyText, noText}

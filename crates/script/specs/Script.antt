@@ -19,8 +19,8 @@ use Rattle.branches.specs.Readout.{moduleBranches}
 use Rattle.core.specs.Lines.{inputsOf}
 use Rattle.supervisor.specs.Supervisor.{freshOf}
 use Rattle.supervisor.specs.declared.Supervisor.{Supervisor}
-use Rattle.calls.specs.Answers.{Reply}
-use Rattle.calls.specs.Runs.{Ask, writeRegister, readRegister, writeMemory, readMemory, tick, askOf, memoryAfter, zeroMemory}
+use Rattle.declines.specs.Answers.{Reply}
+use Rattle.declines.specs.Runs.{Ask, writeRegister, readRegister, writeMemory, readMemory, tick, askOf, memoryAfter, zeroMemory}
 use Rattle.reader.specs.Reader.{linesOf, commandOf}
 use Rattle.printer.specs.Printer.{replyText, noText}
 use Rattle.reader.specs.declared.Command.{Command}

@@ -4,7 +4,7 @@ ghost use mathlib.Core.Path.{_≡_};
 ghost use Prim.Native.Nat.{_+_, _≤_};
 ghost use lib.ListN.{take, drop, length};
 ghost use Rattle.bits.specs.Bytes.{isSameOf};
-ghost use Rattle.calls.specs.Runs.{zeroMemory};
+ghost use Rattle.declines.specs.Runs.{zeroMemory};
 ghost use Rattle.reader.specs.Reader.{linesOf};
 ghost use Rattle.script.specs.Script.{scriptLimit, capacity, freshSession};
 ghost use Rattle.script.specs.Script.{isHeaderOf, answersFrom, answersOf};

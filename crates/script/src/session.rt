@@ -2,19 +2,19 @@
 // definitions are in specs/Script.antt.
 ghost use mathlib.Core.Path.{_≡_};
 ghost use Prim.Native.Nat.{_≤_};
-ghost use Rattle.calls.specs.Answers.{verdictReply, readingReply, tickReply};
+ghost use Rattle.declines.specs.Answers.{verdictReply, readingReply, tickReply};
 ghost use Rattle.printer.specs.Printer.{replyText};
 ghost use Rattle.script.specs.Script.{session, lineAnswer, sessionAfter};
 ghost use Rattle.text.specs.Page.{page, write};
-use calls::ReadDone;
-use calls::TickDone;
-use calls::WriteDone;
 use calls::read_memory;
 use calls::read_register;
 use calls::tick;
 use calls::write_memory;
 use calls::write_register;
 use core::lines::Inputs;
+use declines::ReadDone;
+use declines::TickDone;
+use declines::WriteDone;
 use printer::put_no;
 use printer::put_reading;
 use printer::put_tick;

@@ -11,46 +11,24 @@ returns c = rw (c .enum-told .given .1)
 
 returns-2 : tie.Need-returns-2
 unfolding storedOf
-returns-2 c = rw (c .enum-told2 .given .1)
+returns-2 c = rw (c .setting-value .ensures, c .before .before .register .given .1)
 
 returns-3 : tie.Need-returns-3
 unfolding storedOf
-returns-3 c = rw (c .factor .ensures, c .before .before .register .given .1)
+returns-3 c = rw (c .stored .ensures, c .before .before .register2 .given .1)
 
 returns-4 : tie.Need-returns-4
 unfolding storedOf
-returns-4 c = rw (c .enum-told3 .given .1)
+returns-4 c = rw (c .enum-told2 .given .1)
 
 returns-5 : tie.Need-returns-5
 unfolding storedOf
-returns-5 c = rw (c .before .enum-told4 .given .1)
-
-returns-6 : tie.Need-returns-6
-unfolding storedOf
-returns-6 c = rw (c .stored .ensures, c .before .before .register2 .given .1)
-
-returns-7 : tie.Need-returns-7
-unfolding storedOf
-returns-7 c = rw (c .stored2 .ensures, c .before .before .register3 .given .1)
-
-returns-8 : tie.Need-returns-8
-unfolding storedOf
-returns-8 c = rw (c .enum-told5 .given .1)
-
-returns-9 : tie.Need-returns-9
-unfolding storedOf
-returns-9 c = rw (c .enum-told6 .given .1)
+returns-5 c = rw (c .enum-told3 .given .1)
 
 pub stored-spec : {M : Type 1} → statement M
 stored-spec =
     tie.close
     (tie.spec
-    (λ c. search needs)
-    (λ c. search needs)
-    (λ c. search needs)
-    (λ c κs. search needs)
-    (λ c. search needs)
-    (λ c. search needs)
     (λ c. search needs)
     (λ c. search needs)
     (λ c κs. search needs)
@@ -62,8 +40,4 @@ stored-spec =
     returns-2
     returns-3
     returns-4
-    returns-5
-    returns-6
-    returns-7
-    returns-8
-    returns-9)
+    returns-5)

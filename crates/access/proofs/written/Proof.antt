@@ -11,65 +11,24 @@ returns c = rw (c .csr-written .ensures, c .before .enum-told .given .1)
 
 returns-2 : tie.Need-returns-2
 unfolding writtenOf
-returns-2 c =
-    rw (
-      c .with-core .ensures,
-      c .before .core-written .ensures,
-      c .before .before .enum-told2 .given .1,
-    )
+returns-2 c = rw (c .setting-written .ensures, c .before .before .register .given .1)
 
 returns-3 : tie.Need-returns-3
 unfolding writtenOf
 returns-3 c =
     rw (
-      c .with-core2 .ensures,
-      c .before .core-written2 .ensures,
-      c .before .before .enum-told3 .given .1,
+      c .scalers-written .ensures,
+      c .before .zeroed .ensures,
+      c .before .before .before .register2 .given .1,
     )
 
 returns-4 : tie.Need-returns-4
 unfolding writtenOf
-returns-4 c = rw (c .roc-written .ensures, c .before .enum-told4 .given .1)
+returns-4 c = rw (c .scalers-written2 .ensures, c .before .before .enum-told2 .given .1)
 
 returns-5 : tie.Need-returns-5
 unfolding writtenOf
-returns-5 c =
-    rw (
-      c .with-core3 .ensures,
-      c .before .core-written3 .ensures,
-      c .before .before .enum-told5 .given .1,
-    )
-
-returns-6 : tie.Need-returns-6
-unfolding writtenOf
-returns-6 c =
-    rw (
-      c .with-core4 .ensures,
-      c .before .core-written4 .ensures,
-      c .before .before .enum-told6 .given .1,
-    )
-
-returns-7 : tie.Need-returns-7
-unfolding writtenOf
-returns-7 c =
-    rw (
-      c .with-core5 .ensures,
-      c .before .core-written5 .ensures,
-      c .before .before .enum-told7 .given .1,
-    )
-
-returns-8 : tie.Need-returns-8
-unfolding writtenOf
-returns-8 c =
-    rw (
-      c .with-core6 .ensures,
-      c .before .core-written6 .ensures,
-      c .before .before .enum-told8 .given .1,
-    )
-
-returns-9 : tie.Need-returns-9
-unfolding writtenOf
-returns-9 c = rw (c .enum-told9 .given .1)
+returns-5 c = rw (c .enum-told3 .given .1)
 
 pub written-spec : {M : Type 1} → statement M
 written-spec =
@@ -79,31 +38,14 @@ written-spec =
     (λ c κs. search needs)
     (λ c. search needs)
     (λ c κs. search needs)
-    (λ c κs. search needs)
     (λ c. search needs)
     (λ c κs. search needs)
     (λ c κs. search needs)
     (λ c. search needs)
-    (λ c κs. search needs)
-    (λ c. search needs)
-    (λ c κs. search needs)
-    (λ c κs. search needs)
-    (λ c. search needs)
-    (λ c κs. search needs)
-    (λ c κs. search needs)
-    (λ c. search needs)
-    (λ c κs. search needs)
-    (λ c κs. search needs)
-    (λ c. search needs)
-    (λ c κs. search needs)
     (λ c κs. search needs)
     (λ c. search needs)
     returns
     returns-2
     returns-3
     returns-4
-    returns-5
-    returns-6
-    returns-7
-    returns-8
-    returns-9)
+    returns-5)

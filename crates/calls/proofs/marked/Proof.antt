@@ -1,6 +1,6 @@
 -- `calls::marked` meets its contract: the CSR marked, put back into the core and the record.
 -- First written by tools/prove.py. Assumes nothing.
-use Rattle.calls.specs.Calls.{markedOf}
+use Rattle.declines.specs.Calls.{markedOf}
 use borrow.Author.Needs.{needs}
 use Rattle.calls.proofs.marked.Statement.{statement}
 use Rattle.calls.proofs.marked.Tie as tie

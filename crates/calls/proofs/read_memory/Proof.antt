@@ -1,6 +1,6 @@
 -- `calls::read_memory` meets its contract: each return is reached by the tests that the definition makes, in the same order.
 -- First written by tools/prove.py. Assumes nothing.
-use Rattle.calls.specs.Calls.{readMemoryOf}
+use Rattle.declines.specs.Calls.{readMemoryOf}
 use borrow.Author.Tests.{eq-eqb, le-leb, lt-leb, ne-eqb}
 use borrow.Author.Needs.{needs}
 use Rattle.calls.proofs.read_memory.Statement.{statement}

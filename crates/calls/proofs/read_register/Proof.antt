@@ -1,7 +1,6 @@
 -- `calls::read_register` meets its contract: each return is reached by the tests that the definition makes, in the same order.
--- First written by tools/prove.py. Assumes nothing.
-use Rattle.calls.specs.Calls.{readRegisterOf}
-use borrow.Author.Tests.{le-ltb, lt-ltb}
+-- First written by tools/prove.py; the direction of some facts was changed by hand. Assumes nothing.
+use Rattle.declines.specs.Calls.{readRegisterOf}
 use borrow.Author.Needs.{needs}
 use Rattle.calls.proofs.read_register.Statement.{statement}
 use Rattle.calls.proofs.read_register.Tie as tie
@@ -15,9 +14,11 @@ unfolding readRegisterOf
 returns-2 c =
     rw (
       c .refused-read2 .ensures,
-      lt-ltb _ _ (c .before .if2 .taken),
-      ← c .before .before .before .is-spoiled .ensures,
-      c .before .before .if1 .left,
+      ← c .before .before .before .before .numbered .ensures,
+      ← c .before .before .before .facts .ensures,
+      c .before .if2 .taken,
+      ← c .before .before .before .before .before .before .is-spoiled .ensures,
+      c .before .before .before .before .before .if1 .left,
     )
 
 returns-3 : tie.Need-returns-3
@@ -25,10 +26,11 @@ unfolding readRegisterOf
 returns-3 c =
     rw (
       c .stored .ensures,
-      c .before .numbered .ensures,
-      le-ltb _ _ (c .before .before .if2 .left),
-      ← c .before .before .before .before .is-spoiled .ensures,
-      c .before .before .before .if1 .left,
+      ← c .before .before .before .before .numbered .ensures,
+      ← c .before .before .before .facts .ensures,
+      c .before .if2 .left,
+      ← c .before .before .before .before .before .before .is-spoiled .ensures,
+      c .before .before .before .before .before .if1 .left,
     )
 
 pub read-register-spec : {M : Type 1} → statement M
@@ -39,7 +41,8 @@ read-register-spec =
     (λ c κs. search needs)
     returns
     (λ c κs. search needs)
-    returns-2
     (λ c κs. search needs)
+    (λ c κs. search needs)
+    returns-2
     (λ c κs. search needs)
     returns-3)

@@ -1,6 +1,6 @@
 -- `calls::tick` meets its contract: each return is reached by the tests that the definition makes, in the same order.
 -- First written by tools/prove.py. Assumes nothing.
-use Rattle.calls.specs.Calls.{tickOf}
+use Rattle.declines.specs.Calls.{tickOf}
 use borrow.Author.Tests.{eq-eqb, ne-eqb}
 use borrow.Author.Needs.{needs}
 use Rattle.calls.proofs.tick.Statement.{statement}

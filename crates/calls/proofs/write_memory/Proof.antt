@@ -1,6 +1,6 @@
 -- `calls::write_memory` meets its contract: each return is reached by the tests that both definitions make, in the same order.
 -- Written by tools/prove.py; each answer was given twice, for the record and for the memory. Assumes nothing.
-use Rattle.calls.specs.Calls.{writeMemoryOf, memoryAfterOf}
+use Rattle.declines.specs.Calls.{writeMemoryOf, memoryAfterOf}
 use borrow.Author.Tests.{eq-eqb, le-leb, lt-leb, ne-eqb}
 use borrow.Author.Needs.{needs}
 use Rattle.calls.proofs.write_memory.Statement.{statement}

@@ -1,7 +1,6 @@
 -- `calls::write_register` meets its contract: each return is reached by the tests that the definition makes, in the same order.
--- Written by tools/prove.py; the direction of one fact was changed by hand. Assumes nothing.
-use Rattle.calls.specs.Calls.{writeRegisterOf}
-use borrow.Author.Tests.{le-ltb, lt-ltb}
+-- First written by tools/prove.py; the direction of some facts was changed by hand. Assumes nothing.
+use Rattle.declines.specs.Calls.{writeRegisterOf}
 use borrow.Author.Needs.{needs}
 use Rattle.calls.proofs.write_register.Statement.{statement}
 use Rattle.calls.proofs.write_register.Tie as tie
@@ -15,9 +14,11 @@ unfolding writeRegisterOf
 returns-2 c =
     rw (
       c .refused2 .ensures,
-      lt-ltb _ _ (c .before .if2 .taken),
-      ← c .before .before .before .is-spoiled .ensures,
-      c .before .before .if1 .left,
+      ← c .before .before .before .before .numbered .ensures,
+      ← c .before .before .before .facts .ensures,
+      c .before .if2 .taken,
+      ← c .before .before .before .before .before .before .is-spoiled .ensures,
+      c .before .before .before .before .before .if1 .left,
     )
 
 returns-3 : tie.Need-returns-3
@@ -25,12 +26,14 @@ unfolding writeRegisterOf
 returns-3 c =
     rw (
       c .refused3 .ensures,
+      ← c .before .before .before .before .before .before .before .before .numbered .ensures,
+      ← c .before .before .before .before .before .before .before .facts .ensures,
       c .before .marked .ensures,
-      ← c .before .before .before .is-active .ensures,
+      ← c .before .before .before .before .is-active .ensures,
       c .before .before .if3 .taken,
-      le-ltb _ _ (c .before .before .before .before .if2 .left),
-      ← c .before .before .before .before .before .before .is-spoiled .ensures,
-      c .before .before .before .before .before .if1 .left,
+      c .before .before .before .before .before .if2 .left,
+      ← c .before .before .before .before .before .before .before .before .before .before .is-spoiled .ensures,
+      c .before .before .before .before .before .before .before .before .before .if1 .left,
     )
 
 returns-4 : tie.Need-returns-4
@@ -38,14 +41,15 @@ unfolding writeRegisterOf
 returns-4 c =
     rw (
       c .refused4 .ensures,
-      ← c .before .before .before .numbered .ensures,
+      ← c .before .before .before .before .before .before .before .before .before .numbered .ensures,
+      ← c .before .before .before .before .before .before .before .before .facts .ensures,
+      ← c .before .before .before .before .before .is-active .ensures,
       ← c .before .before .is-valid-value .ensures,
       c .before .if4 .taken,
-      ← c .before .before .before .before .before .is-active .ensures,
-      c .before .before .before .before .if3 .left,
-      le-ltb _ _ (c .before .before .before .before .before .before .if2 .left),
-      ← c .before .before .before .before .before .before .before .before .is-spoiled .ensures,
-      c .before .before .before .before .before .before .before .if1 .left,
+      c .before .before .before .if3 .left,
+      c .before .before .before .before .before .before .if2 .left,
+      ← c .before .before .before .before .before .before .before .before .before .before .before .is-spoiled .ensures,
+      c .before .before .before .before .before .before .before .before .before .before .if1 .left,
     )
 
 returns-5 : tie.Need-returns-5
@@ -53,14 +57,15 @@ unfolding writeRegisterOf
 returns-5 c =
     rw (
       c .written .ensures,
-      ← c .before .before .before .numbered .ensures,
+      ← c .before .before .before .before .before .before .before .before .before .numbered .ensures,
+      ← c .before .before .before .before .before .before .before .before .facts .ensures,
+      ← c .before .before .before .before .before .is-active .ensures,
       ← c .before .before .is-valid-value .ensures,
       c .before .if4 .left,
-      ← c .before .before .before .before .before .is-active .ensures,
-      c .before .before .before .before .if3 .left,
-      le-ltb _ _ (c .before .before .before .before .before .before .if2 .left),
-      ← c .before .before .before .before .before .before .before .before .is-spoiled .ensures,
-      c .before .before .before .before .before .before .before .if1 .left,
+      c .before .before .before .if3 .left,
+      c .before .before .before .before .before .before .if2 .left,
+      ← c .before .before .before .before .before .before .before .before .before .before .before .is-spoiled .ensures,
+      c .before .before .before .before .before .before .before .before .before .before .if1 .left,
     )
 
 pub write-register-spec : {M : Type 1} → statement M
@@ -71,12 +76,13 @@ write-register-spec =
     (λ c κs. search needs)
     returns
     (λ c κs. search needs)
+    (λ c κs. search needs)
+    (λ c κs. search needs)
     returns-2
     (λ c κs. search needs)
     (λ c κs. search needs)
     (λ c κs. search needs)
     returns-3
-    (λ c κs. search needs)
     (λ c κs. search needs)
     (λ c κs. search needs)
     returns-4

@@ -8,7 +8,7 @@ use native.Mathlib.Omega.{arith}
 use lib.ListN.{length, take, drop, length-drop, length-replicate}
 use lib.Seq.{take-all}
 use borrow.Author.Needs.{needs}
-use Rattle.calls.specs.Calls.{memoryPlaces}
+use Rattle.declines.specs.Calls.{memoryPlaces}
 use Rattle.reader.specs.Reader.{linesOf, firstLineOf}
 use Rattle.script.specs.Script.{scriptLimit, capacity, session, freshSession, lineAnswer, sessionAfter}
 use Rattle.script.specs.Script.{answersFrom}

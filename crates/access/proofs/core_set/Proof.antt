@@ -1,0 +1,44 @@
+-- `access::core_set` meets its contract: one arm for each setting.
+-- First written by tools/prove.py. Assumes nothing.
+use Rattle.access.specs.Access.{coreSetOf}
+use borrow.Author.Needs.{needs}
+use Rattle.access.proofs.core_set.Statement.{statement}
+use Rattle.access.proofs.core_set.Tie as tie
+
+returns : tie.Need-returns
+unfolding coreSetOf
+returns c = rw (c .enum-told .given .1)
+
+returns-2 : tie.Need-returns-2
+unfolding coreSetOf
+returns-2 c = rw (c .with-factor .ensures, c .before .before .setting .given .1)
+
+returns-3 : tie.Need-returns-3
+unfolding coreSetOf
+returns-3 c = rw (c .enum-told2 .given .1)
+
+returns-4 : tie.Need-returns-4
+unfolding coreSetOf
+returns-4 c = rw (c .enum-told3 .given .1)
+
+returns-5 : tie.Need-returns-5
+unfolding coreSetOf
+returns-5 c = rw (c .written .ensures, c .before .before .setting2 .given .1)
+
+pub core-set-spec : {M : Type 1} → statement M
+core-set-spec =
+    tie.close
+    (tie.spec
+    (λ c. search needs)
+    (λ c. search needs)
+    (λ c κs. search needs)
+    (λ c. search needs)
+    (λ c. search needs)
+    (λ c. search needs)
+    (λ c. search needs)
+    (λ c κs. search needs)
+    returns
+    returns-2
+    returns-3
+    returns-4
+    returns-5)

@@ -1,3 +1,0 @@
--- The laws, in the order of reading; the proofs of functions stand in folders of their own. Assumes nothing.
-pub mod CallEnds
-pub mod CallsLaws

@@ -1,0 +1,3 @@
+-- The laws, in the order of reading. Assumes nothing.
+pub mod CallEnds
+pub mod CallsLaws
