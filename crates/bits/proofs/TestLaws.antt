@@ -5,13 +5,14 @@
 --     every-at, at-every    a test at each index below n is the tests at all of them
 --     and-fails, every-fails   a chain fails if its second part does; a test at every index if it fails at one
 --     all-true-at           a list of tests that all hold has each of them, by its place
+--     all-true-left, all-true-right, all-true-both   and one list after another that all hold is both
 --     by-cond               what holds of both results of a choice holds of the choice; each side knows its test
 --     or-true, or-rest      a second test that holds makes the choice hold; a first that fails leaves the second
 -- Assumes nothing.
 use Prim.Native.Nat.{ℕ, zero, suc, _<_}
 use mathlib.Core.Path.{_≡_, refl}
 use mathlib.Core.Bool.{Bool, true, false, not, _&&_, _||_, cond, true≢false, false≢true}
-use mathlib.Core.List.{List, [], _∷_}
+use mathlib.Core.List.{List, [], _∷_, _++_}
 use native.Mathlib.Omega.{arith}
 use lib.ListN.{length, getD}
 use Rattle.bits.specs.Bits.{every, allTrue}
@@ -64,6 +65,20 @@ pub all-true-at : (ts : List Bool) → allTrue ts ≡ true → (i : ℕ) → i <
 all-true-at [] h i k = absurd (omega arith)
 all-true-at (t ∷ ts) h zero k = and-left t (allTrue ts) h
 all-true-at (t ∷ ts) h (suc i) k = all-true-at ts (and-right t (allTrue ts) h) i (omega arith)
+
+pub all-true-left : (ts us : List Bool) → allTrue (ts ++ us) ≡ true → allTrue ts ≡ true
+all-true-left [] us h = refl
+all-true-left (t ∷ ts) us h =
+    and-both t (allTrue ts) (and-left t (allTrue (ts ++ us)) h) (all-true-left ts us (and-right t (allTrue (ts ++ us)) h))
+
+pub all-true-right : (ts us : List Bool) → allTrue (ts ++ us) ≡ true → allTrue us ≡ true
+all-true-right [] us h = h
+all-true-right (t ∷ ts) us h = all-true-right ts us (and-right t (allTrue (ts ++ us)) h)
+
+pub all-true-both : (ts us : List Bool) → allTrue ts ≡ true → allTrue us ≡ true → allTrue (ts ++ us) ≡ true
+all-true-both [] us h k = k
+all-true-both (t ∷ ts) us h k =
+    and-both t (allTrue (ts ++ us)) (and-left t (allTrue ts) h) (all-true-both ts us (and-right t (allTrue ts) h) k)
 
 pub or-true : (p q : Bool) → q ≡ true → (p || q) ≡ true
 or-true true q h = refl

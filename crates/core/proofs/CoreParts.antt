@@ -13,12 +13,13 @@
 use Prim.Native.Nat.{ℕ, _+_}
 use mathlib.Core.Path.{_≡_, refl, sym, ap, ap₂, _∙_}
 use mathlib.Core.Bool.{Bool, true, false, not, _&&_, _||_, true≢false, false≢true}
+use mathlib.Core.List.{_++_}
 use native.Mathlib.Omega.{arith}
 use lib.Dec.{eqb, leb, lit<}
 use borrow.Author.Tests.{not-true}
 use Rattle.bits.specs.Bits.{bitAt, oneIfOf}
 use Rattle.bits.specs.Bytes.{allOf}
-use Rattle.bits.proofs.TestLaws.{and-left, and-right, implied, all-true-at, by-cond}
+use Rattle.bits.proofs.TestLaws.{and-left, and-right, implied, all-true-at, all-true-right, by-cond}
 use Rattle.bits.proofs.BitsLaws.{zero-at}
 use Rattle.registers.specs.Csr as csr
 use Rattle.sync.proofs.SyncLaws.{user-tag-exactly}
@@ -40,7 +41,7 @@ use Rattle.scalers.specs.Scalers.{isSome}
 use Rattle.core.specs.Effects.{latchOf}
 use Rattle.core.specs.Core.{isReadyOf, isOpenOf}
 use Rattle.core.specs.Core.{testsOf, cycleStepOf, mainStepOf, userStepOf}
-use Rattle.core.specs.Core.{allowsEightOf, soundnessOf, isSoundOf}
+use Rattle.core.specs.Core.{allowsEightOf, bankClauses, registerClauses, sequencerClauses, isSoundOf}
 use Rattle.core.specs.declared.lines.Lines.{Lines}
 use Rattle.core.specs.declared.Core.{Core}
 use Rattle.core.specs.declared.Latch.{Latch}
@@ -166,7 +167,8 @@ module _ (empty : Bool) (c : Core) (tag : userStepOf empty c .tag ≡ true) wher
 pub sound-waits-at-idle : (c : Core) → isSoundOf c ≡ true → c .user .waiting ≡ true → isIdle (c .main .state) ≡ true
 unfolding isSoundOf
 sound-waits-at-idle c sound =
-    implied (c .user .waiting) (isIdle (c .main .state)) (all-true-at (soundnessOf c) sound 7 (lit< tt))
+    let sequencers = all-true-right (bankClauses c ++ registerClauses c) (sequencerClauses c) sound in
+    implied (c .user .waiting) (isIdle (c .main .state)) (all-true-at (sequencerClauses c) sequencers 2 (lit< tt))
 
 -- ---- where a word is loaded
 

@@ -7,13 +7,13 @@
 --     stepOf         a tick of the core
 --     freshOf, resetOf   the core at power-up, and after RESET
 --     linesOutOf     the lines out
---     isActiveOf, allowsEightOf, isSoundOf   its part of the active rule and of the spoiled rule, clause by clause in soundnessOf
+--     isActiveOf, allowsEightOf, isSoundOf   its part of the active rule and of the spoiled rule, clause by clause in three groups
 -- [Tick.2]: each part below is a function of the record as the tick found it, and of nothing that another part changed.
 -- Own rules of 01 used here: none. Decisions: T1, T2, T4, A2, A4, F4. Left out: nothing.
 -- Assumes nothing.
 use Prim.Native.Nat.{ℕ, _+_, _*_, _%_}
 use mathlib.Core.Bool.{Bool, not, _&&_, _||_}
-use mathlib.Core.List.{List, [], _∷_}
+use mathlib.Core.List.{List, [], _∷_, _++_}
 use Rattle.bits.specs.Notation.{if_then_else_}
 use Rattle.bits.specs.Bits.{oneIfOf, allTrue}
 use Rattle.registers.specs.Csr as csr
@@ -185,19 +185,24 @@ isActiveOf c =
 abbrev pub allowsEightOf : Core → Bool
 allowsEightOf c = isLoaded (c .main .state) || c .user .waiting
 
--- the clauses of the spoiled rule on the core: all hold in a record that is not spoiled
--- [Spoiled.1e] [Spoiled.1a] factors, CSR, control, assign; [Spoiled.1b] [Spoiled.1c] [Spoiled.1i]; [Spoiled.1h]; [Spoiled.1k]
-abbrev pub soundnessOf : Core → List Bool
-soundnessOf c =
-    prescaler.hasCountersWithinOf (c .prescalers)
-    ∷ prescaler.hasValidFactorsOf (c .prescalers)
-    ∷ csr.isValidStoredCsr (c .csr)
-    ∷ isValidControl (c .control .word)
-    ∷ isValidAssign (c .scalers .assign)
-    ∷ main.isWellFormedOf (c .main)
+-- ---- the clauses of the spoiled rule on the core, in three groups: all hold in a record that is not spoiled
+
+-- [Spoiled.1e] [Spoiled.1a] the prescalers
+abbrev pub bankClauses : Core → List Bool
+bankClauses c = prescaler.hasCountersWithinOf (c .prescalers) ∷ prescaler.hasValidFactorsOf (c .prescalers) ∷ []
+
+-- [Spoiled.1a] the other registers
+abbrev pub registerClauses : Core → List Bool
+registerClauses c =
+    csr.isValidStoredCsr (c .csr) ∷ isValidControl (c .control .word) ∷ isValidAssign (c .scalers .assign) ∷ []
+
+-- [Spoiled.1b] [Spoiled.1c] [Spoiled.1i] main; [Spoiled.1h] the sync count; [Spoiled.1k] the user sync
+abbrev pub sequencerClauses : Core → List Bool
+sequencerClauses c =
+    main.isWellFormedOf (c .main)
     ∷ counter.isWithin (c .sync)
     ∷ (not (c .user .waiting) || isIdle (c .main .state))
     ∷ []
 
 unfoldable pub isSoundOf : Core → Bool
-isSoundOf c = allTrue (soundnessOf c)
+isSoundOf c = allTrue (bankClauses c ++ registerClauses c ++ sequencerClauses c)

@@ -1,4 +1,5 @@
 -- The proof, in the order of reading. Assumes nothing.
+pub mod SequencersSound
 pub mod Sound
 pub mod CoreSound
 pub mod ReadoutSound

@@ -25,7 +25,7 @@ use Rattle.reach.proofs.WriteSound.{write-keeps-type, write-keeps-unspo
 -- what every call keeps
 pub record UnspoiledOfType (s : Supervisor) : Type 0 where
   pub ofType : OfType s
-  pub unspoiled : Unspoiled s
+  pub unspoiled : Unspoiled (s .core) (s .readout .branches)
 
 -- ---- one call, by how it ends
 

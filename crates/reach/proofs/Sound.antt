@@ -1,55 +1,50 @@
--- A record that is not spoiled, as facts in groups: each group over just the fields that it reads, so that a call that
--- leaves a group alone hands it on.
---     SoundCore           the clauses on the core
---     SoundBranches       the clauses on the branches
---     SoundBranch         those on one branch
---     Unspoiled           both
+-- A record that is not spoiled, as facts in four groups, each over just the fields that it reads: a call that leaves the
+-- fields of a group alone hands the group on.
+--     SoundBank, SoundRegisters   the prescalers, and the other registers; the sequencers are in SequencersSound
+--     SoundBranches           the branches, and SoundBranch: one of them
+--     Unspoiled               the four, of a core and a list of branches
 --     unspoiled-from-test, unspoiled-to-test   the spoiled rule and the facts say the same
+--     sound-test, branches-test   what the laws of the core and of the branches ask
 -- Assumes nothing.
 use Prim.Native.Nat.{ℕ, _<_}
 use mathlib.Core.Path.{_≡_, refl}
 use mathlib.Core.Bool.{Bool, true, false, _&&_, _||_}
-use mathlib.Core.List.{List}
+use mathlib.Core.List.{List, _++_}
 use lib.Dec.{lit<}
 use lib.ListN.{length}
 use borrow.Author.Tests.{not-false}
-use Rattle.bits.proofs.TestLaws.{and-left, and-right, and-both, every-at, at-every, all-true-at, implied, implies}
-use Rattle.bits.proofs.TestLaws.{or-rest}
+use Rattle.bits.proofs.TestLaws.{and-left, and-right, and-both, every-at, at-every, or-rest}
+use Rattle.bits.proofs.TestLaws.{all-true-at, all-true-left, all-true-right, all-true-both}
 use Rattle.registers.specs.Csr as csr
 use Rattle.registers.specs.Registers.{isValidControl, isValidAssign}
+use Rattle.registers.specs.declared.csr.Csr.{Csr}
 use Rattle.prescaler.specs.Prescaler as prescaler
-use Rattle.sync.specs.SyncCounter as counter
-use Rattle.sequencer.specs.States.{isIdle}
-use Rattle.sequencer.specs.MainSequencer.{WellFormedMain}
-use Rattle.sequencer.specs.MainSequencer as main
-use Rattle.sequencer.proofs.MainWellFormed as sequencer
+use Rattle.prescaler.specs.declared.Prescalers.{Prescalers}
 use Rattle.branch.specs.Branch.{hasFreePlaceOf, WellFormedBranch}
 use Rattle.branch.specs.Branch as branch
 use Rattle.branch.proofs.BranchLaws.{well-formed-from-test, well-formed-to-test}
 use Rattle.branch.specs.declared.Branch.{Branch}
 use Rattle.branches.specs.ReadoutFields.{branchAt}
 use Rattle.branches.specs.Readout as readout
-use Rattle.core.specs.Core.{soundnessOf, isSoundOf, allowsEightOf}
+use Rattle.core.specs.Core.{bankClauses, registerClauses, sequencerClauses, isSoundOf, allowsEightOf}
 use Rattle.core.specs.declared.Core.{Core}
 use Rattle.supervisor.specs.Supervisor.{isSpoiledOf}
 use Rattle.supervisor.specs.declared.Supervisor.{Supervisor}
+use Rattle.reach.proofs.SequencersSound.{SoundSequencers, sequencers-from-test, sequencers-to-test}
 
 -- ---- the facts
 
-pub record SoundCore (c : Core) : Type 0 where
+pub record SoundBank (b : Prescalers) : Type 0 where
   -- [Spoiled.1e]
-  pub counters : prescaler.hasCountersWithinOf (c .prescalers) ≡ true
+  pub counters : prescaler.hasCountersWithinOf b ≡ true
   -- [Spoiled.1a]
-  pub factors : prescaler.hasValidFactorsOf (c .prescalers) ≡ true
-  pub csr : csr.isValidStoredCsr (c .csr) ≡ true
-  pub control : isValidControl (c .control .word) ≡ true
-  pub assign : isValidAssign (c .scalers .assign) ≡ true
-  -- [Spoiled.1b] [Spoiled.1c] [Spoiled.1i]
-  pub main : WellFormedMain (c .main)
-  -- [Spoiled.1h]
-  pub count : counter.isWithin (c .sync) ≡ true
-  -- [Spoiled.1k]
-  pub waits : c .user .waiting ≡ true → isIdle (c .main .state) ≡ true
+  pub factors : prescaler.hasValidFactorsOf b ≡ true
+
+-- [Spoiled.1a]
+pub record SoundRegisters (w : Csr) (enables assigned : ℕ) : Type 0 where
+  pub csr : csr.isValidStoredCsr w ≡ true
+  pub control : isValidControl enables ≡ true
+  pub assign : isValidAssign assigned ≡ true
 
 -- one branch: well formed, and with room where eight words are not allowed
 pub record SoundBranch (eight : Bool) (b : Branch) : Type 0 where
@@ -59,40 +54,18 @@ pub record SoundBranch (eight : Bool) (b : Branch) : Type 0 where
 abbrev pub SoundBranches : (eight : Bool) → List Branch → Type 0
 SoundBranches eight bs = (k : ℕ) → k < length bs → SoundBranch eight (branchAt bs k)
 
-pub record Unspoiled (s : Supervisor) : Type 0 where
-  pub core : SoundCore (s .core)
-  pub branches : SoundBranches (allowsEightOf (s .core)) (s .readout .branches)
+pub record Groups (Bank Registers Sequencers Branches : Type 0) : Type 0 where
+  pub bank : Bank
+  pub registers : Registers
+  pub sequencers : Sequencers
+  pub branches : Branches
+
+abbrev pub Unspoiled : Core → List Branch → Type 0
+Unspoiled c bs =
+    Groups (SoundBank (c .prescalers)) (SoundRegisters (c .csr) (c .control .word) (c .scalers .assign)) (SoundSequencers c)
+    (SoundBranches (allowsEightOf c) bs)
 
 -- ---- the rule and the facts
-
-sound-from-test : (c : Core) → isSoundOf c ≡ true → SoundCore c
-unfolding isSoundOf
-sound-from-test c h =
-    let clause : (i : ℕ) → i < 8 → _ = all-true-at (soundnessOf c) h in
-    record {
-      counters = clause 0 (lit< tt);
-      factors = clause 1 (lit< tt);
-      csr = clause 2 (lit< tt);
-      control = clause 3 (lit< tt);
-      assign = clause 4 (lit< tt);
-      main = sequencer.well-formed-from-test (c .main) (clause 5 (lit< tt));
-      count = clause 6 (lit< tt);
-      waits = implied (c .user .waiting) (isIdle (c .main .state)) (clause 7 (lit< tt));
-    }
-
-sound-to-test : (c : Core) → SoundCore c → isSoundOf c ≡ true
-unfolding isSoundOf
-sound-to-test c h =
-    rw (
-      h .counters,
-      h .factors,
-      h .csr,
-      h .control,
-      h .assign,
-      sequencer.well-formed-to-test (c .main) (h .main),
-      h .count,
-      implies (c .user .waiting) (isIdle (c .main .state)) (h .waits),
-    )
 
 or-when : (a b : Bool) → (a ≡ false → b ≡ true) → (a || b) ≡ true
 or-when true b h = refl
@@ -119,31 +92,49 @@ module _ (eight : Bool) (bs : List Branch) where
   unfolding readout.isWellFormedOf
   branches-from-test h k i = branch-from-test eight (branchAt bs k) (every-at (length bs) sound h k i)
 
-  branches-to-test : SoundBranches eight bs → readout.isWellFormedOf eight bs ≡ true
+  -- what the laws of the branches ask
+  pub branches-test : SoundBranches eight bs → readout.isWellFormedOf eight bs ≡ true
   unfolding readout.isWellFormedOf
-  branches-to-test h = at-every (length bs) sound (λ k i. branch-to-test eight (branchAt bs k) (h k i))
+  branches-test h = at-every (length bs) sound (λ k i. branch-to-test eight (branchAt bs k) (h k i))
+
+module _ (c : Core) (bs : List Branch) where
+  from-tests : isSoundOf c ≡ true → SoundBranches (allowsEightOf c) bs → Unspoiled c bs
+  unfolding isSoundOf
+  from-tests h branches =
+      let clause : (i : ℕ) → i < 5 → _ =
+          all-true-at (bankClauses c ++ registerClauses c) (all-true-left (bankClauses c ++ registerClauses c) (sequencerClauses c) h)
+      in
+      record {
+        bank = record { counters = clause 0 (lit< tt); factors = clause 1 (lit< tt) };
+        registers = record { csr = clause 2 (lit< tt); control = clause 3 (lit< tt); assign = clause 4 (lit< tt) };
+        sequencers =
+            sequencers-from-test c (all-true-right (bankClauses c ++ registerClauses c) (sequencerClauses c) h);
+        branches = branches;
+      }
+
+  -- what the laws of the core ask
+  pub sound-test : Unspoiled c bs → isSoundOf c ≡ true
+  unfolding isSoundOf
+  sound-test u =
+      all-true-both (bankClauses c ++ registerClauses c) (sequencerClauses c)
+      (rw (u .bank .counters, u .bank .factors, u .registers .csr, u .registers .control, u .registers .assign))
+      (sequencers-to-test c (u .sequencers))
 
 module _ (s : Supervisor) where
-  abbrev branchesFine : Bool
-  branchesFine = readout.isWellFormedOf (allowsEightOf (s .core)) (s .readout .branches)
+  abbrev eight : Bool
+  eight = allowsEightOf (s .core)
 
-  pub unspoiled-from-test : isSpoiledOf s ≡ false → Unspoiled s
+  abbrev branchesFine : Bool
+  branchesFine = readout.isWellFormedOf eight (s .readout .branches)
+
+  pub unspoiled-from-test : isSpoiledOf s ≡ false → Unspoiled (s .core) (s .readout .branches)
   unfolding isSpoiledOf
   unspoiled-from-test h =
       let both : (branchesFine && isSoundOf (s .core)) ≡ true = not-false (branchesFine && isSoundOf (s .core)) h in
-      record {
-        core = sound-from-test (s .core) (and-right branchesFine (isSoundOf (s .core)) both);
-        branches = branches-from-test (allowsEightOf (s .core)) (s .readout .branches) (and-left branchesFine (isSoundOf (s .core)) both);
-      }
+      from-tests (s .core) (s .readout .branches) (and-right branchesFine (isSoundOf (s .core)) both)
+      (branches-from-test eight (s .readout .branches) (and-left branchesFine (isSoundOf (s .core)) both))
 
-  pub unspoiled-to-test : Unspoiled s → isSpoiledOf s ≡ false
+  pub unspoiled-to-test : Unspoiled (s .core) (s .readout .branches) → isSpoiledOf s ≡ false
   unfolding isSpoiledOf
-  unspoiled-to-test h =
-      rw (branches-to-test (allowsEightOf (s .core)) (s .readout .branches) (h .branches), sound-to-test (s .core) (h .core))
-
--- what the laws of the branches and the core ask
-pub sound-test : (c : Core) → SoundCore c → isSoundOf c ≡ true
-sound-test = sound-to-test
-
-pub branches-test : (eight : Bool) (bs : List Branch) → SoundBranches eight bs → readout.isWellFormedOf eight bs ≡ true
-branches-test = branches-to-test
+  unspoiled-to-test u =
+      rw (branches-test eight (s .readout .branches) (u .branches), sound-test (s .core) (s .readout .branches) u)

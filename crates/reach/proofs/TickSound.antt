@@ -47,7 +47,8 @@ use Rattle.supervisor.specs.Supervisor.{coreStepOf, readoutStepOf, joinedOf, ti
 use Rattle.supervisor.specs.declared.Supervisor.{Supervisor}
 use Rattle.reach.specs.NeverSpoiled.{OfType}
 use Rattle.reach.proofs.Sound.{Unspoiled, sound-test}
-use Rattle.reach.proofs.CoreSound.{tick-keeps-sound}
+use Rattle.reach.proofs.SequencersSound.{tick-keeps-sequencers}
+use Rattle.reach.proofs.CoreSound.{tick-keeps-bank, tick-keeps-registers}
 use Rattle.reach.proofs.ReadoutSound.{branch-stays-sound}
 
 -- ---- what the core's step says of eight words
@@ -192,7 +193,9 @@ test-gives-room lock lock4 bs k h = go (readout.hasRoomOf lock lock4 bs) refl
         let none = ap length (laws.empty-at bs k h t) in
         omega (arith, none, held-length (branchAt bs k))
 
-module _ (memory : List ℕ) (x : Inputs) (s : Supervisor) (ofType : OfType s) (u : Unspoiled s) where
+module _ (memory : List ℕ) (x : Inputs) (s : Supervisor) (ofType : OfType s)
+  (u : Unspoiled (s .core) (s .readout .branches))
+  where
   pub tick-keeps-type : OfType (tickedOf memory x s .next)
   unfolding tickedOf joinedOf coreStepOf
   tick-keeps-type =
@@ -205,7 +208,7 @@ module _ (memory : List ℕ) (x : Inputs) (s : Supervisor) (ofType : OfType s) (
         interval = rw (interval-stays room empty x memory (s .core)) (ofType .interval);
       }
 
-  pub tick-keeps-unspoiled : Unspoiled (tickedOf memory x s .next)
+  pub tick-keeps-unspoiled : Unspoiled (tickedOf memory x s .next .core) (tickedOf memory x s .next .readout .branches)
   unfolding tickedOf joinedOf coreStepOf readoutStepOf readout.stepOf
   tick-keeps-unspoiled =
       let lock = csr.locksRoc (s .core .csr) in
@@ -217,14 +220,16 @@ module _ (memory : List ℕ) (x : Inputs) (s : Supervisor) (ofType : OfType s) (
       let bs = s .readout .branches in
       let step : CoreStep = core.stepOf room empty x memory (s .core) in
       record {
-        core = tick-keeps-sound room empty x memory (s .core) (u .core) (ofType .interval);
+        bank = tick-keeps-bank room empty x memory (s .core) (u .bank);
+        registers = tick-keeps-registers room empty x memory (s .core) (u .registers);
+        sequencers = tick-keeps-sequencers room empty x memory (s .core) (u .sequencers) (ofType .interval);
         branches = λ k h.
             let before = rw (laws.step-keeps-length acks enabled _ bs) at h in
             branch-stays-sound acks enabled (core.allowsEightOf (s .core)) bs (u .branches) k before (step .outcome)
             (core.allowsEightOf (step .next))
             (coreLaws.step-loads-six-bits room empty x memory (s .core))
             (load-allows-eight room empty x memory (s .core))
-            (coreLaws.step-loads-below-eight room empty x memory (s .core) (sound-test (s .core) (u .core)))
+            (coreLaws.step-loads-below-eight room empty x memory (s .core) (sound-test (s .core) bs u))
             (λ e e′.
             test-gives-room lock lock4 bs k before (leaves-by-test room empty x memory (s .core) e e′));
       }

@@ -7,6 +7,7 @@
 use Prim.Native.Nat.{ℕ, suc, _+_, _<_}
 use mathlib.Core.Path.{_≡_, refl}
 use mathlib.Core.Bool.{Bool, true, false}
+use mathlib.Core.List.{List}
 use native.Mathlib.Omega.{arith}
 use native.Mathlib.Nat.{mod-lt}
 use lib.Dec.{eqb, lit<}
@@ -40,13 +41,15 @@ use Rattle.scalers.specs.Scalers as scalers
 use Rattle.scalers.specs.declared.Scalers.{Scalers}
 use Rattle.core.specs.CoreFields.{withCsr, withScalers}
 use Rattle.core.specs.Core as core
-use Rattle.supervisor.specs.Supervisor.{withCore, freshOf, initializedOf, resetOf}
+use Rattle.core.specs.declared.Core.{Core}
+use Rattle.supervisor.specs.Supervisor.{freshOf, initializedOf, resetOf}
 use Rattle.supervisor.specs.declared.Supervisor.{Supervisor}
 use Rattle.access.specs.Access.{afterCsrOf, csrWrittenOf, coreSetOf, readoutSetOf, settingWrittenOf, writtenOf}
 use Rattle.declines.specs.Calls.{markedOf}
 use Rattle.reach.specs.NeverSpoiled.{OfType}
-use Rattle.reach.proofs.Sound.{SoundCore, SoundBranch, Unspoiled}
-use Rattle.reach.proofs.CoreSound.{reset-keeps-sound, fresh-is-sound}
+use Rattle.reach.proofs.Sound.{SoundBranch, Unspoiled}
+use Rattle.reach.proofs.SequencersSound.{idle-is-sound}
+use Rattle.reach.proofs.CoreSound.{reset-keeps-bank, fresh-has-bank}
 
 -- ---- fresh branches
 
@@ -57,55 +60,64 @@ pub fresh-is-of-type : (n : ℕ) → OfType (freshOf n)
 unfolding freshOf core.freshOf
 fresh-is-of-type n = record { eight = loadLaws.fresh-has-lengths; interval = lit< tt }
 
-pub fresh-is-unspoiled : (n : ℕ) → Unspoiled (freshOf n)
-unfolding freshOf
+pub fresh-is-unspoiled : (n : ℕ) → Unspoiled (freshOf n .core) (freshOf n .readout .branches)
+unfolding freshOf core.freshOf
 fresh-is-unspoiled n =
     record {
-      core = fresh-is-sound;
+      bank = fresh-has-bank;
+      registers = record { csr = refl; control = refl; assign = refl };
+      sequencers = idle-is-sound;
       branches = λ k h. fresh-branch _ _ (laws.fresh-is-fresh n k (rw (laws.fresh-has-length n) at h));
     }
 
 -- ---- the CSR
 
-module _ (s : Supervisor) (u : Unspoiled s) where
+module _ (c : Core) (bs : List Branch) (u : Unspoiled c bs) where
   -- another CSR that may be stored
-  with-csr : (w : Csr) → csr.isValidStoredCsr w ≡ true → Unspoiled (s ▷ withCore (s .core ▷ withCsr w))
+  with-csr : (w : Csr) → csr.isValidStoredCsr w ≡ true → Unspoiled (c ▷ withCsr w) bs
   with-csr w valid =
-      let c = u .core in
       record {
-        core = record { counters = c .counters; factors = c .factors; csr = valid; control = c .control; assign = c .assign; main = c .main; count = c .count; waits = c .waits };
+        bank = u .bank;
+        registers = record { csr = valid; control = u .registers .control; assign = u .registers .assign };
+        sequencers = u .sequencers;
         branches = u .branches;
       }
 
+  -- [CSRWrite.2d]
+  reset-keeps-unspoiled : Unspoiled (core.resetOf c) (readout.freshBranches (length bs))
+  unfolding core.resetOf
+  reset-keeps-unspoiled =
+      record {
+        bank = reset-keeps-bank (c .prescalers) (u .bank);
+        registers = u .registers;
+        sequencers = idle-is-sound;
+        branches = λ k h. fresh-branch _ _ (laws.fresh-is-fresh (length bs) k (rw (laws.fresh-has-length (length bs)) at h));
+      }
+
+module _ (s : Supervisor) (u : Unspoiled (s .core) (s .readout .branches)) where
+  abbrev after : (Supervisor → Supervisor) → Type 0
+  after f = Unspoiled (f s .core) (f s .readout .branches)
+
   -- [Declines.2c] [Declines.4d]
-  pub marked-keeps-unspoiled : (status : ℕ) → Unspoiled (markedOf status s)
+  pub marked-keeps-unspoiled : (status : ℕ) → after (markedOf status)
   unfolding markedOf
   marked-keeps-unspoiled status =
-      with-csr (csr.markedOf status (s .core .csr)) (csrLaws.marked-keeps-valid status (s .core .csr) (u .core .csr))
+      with-csr (s .core) (s .readout .branches) u (csr.markedOf status (s .core .csr))
+      (csrLaws.marked-keeps-valid status (s .core .csr) (u .registers .csr))
 
--- [CSRWrite.2d]
-reset-keeps-unspoiled : (s : Supervisor) → Unspoiled s → Unspoiled (resetOf s)
-unfolding resetOf readout.emptiedOf
-reset-keeps-unspoiled s u =
-    record {
-      core = reset-keeps-sound (s .core) (u .core);
-      branches = λ k h.
-          let n : ℕ = length (s .readout .branches) in
-          fresh-branch _ _ (laws.fresh-is-fresh n k (rw (laws.fresh-has-length n) at h));
-    }
-
-module _ (v : ℕ) (s : Supervisor) (u : Unspoiled s) where
-  by-request : (r : Request) (w : CsrWrite) → csr.isValidStoredCsr (w .next) ≡ true → Unspoiled (afterCsrOf r w s)
-  unfolding initializedOf
+  by-request : (r : Request) (w : CsrWrite) → csr.isValidStoredCsr (w .next) ≡ true → after (afterCsrOf r w)
+  unfolding initializedOf resetOf readout.emptiedOf
   by-request Initialize w valid = fresh-is-unspoiled (length (s .readout .branches))
-  by-request Reset w valid = reset-keeps-unspoiled (s ▷ withCore (s .core ▷ withCsr (w .next))) (with-csr s u (w .next) valid)
-  by-request Nothing w valid = with-csr s u (w .next) valid
+  by-request Reset w valid =
+      reset-keeps-unspoiled (s .core ▷ withCsr (w .next)) (s .readout .branches)
+      (with-csr (s .core) (s .readout .branches) u (w .next) valid)
+  by-request Nothing w valid = with-csr (s .core) (s .readout .branches) u (w .next) valid
 
-  csr-keeps-unspoiled : Unspoiled (csrWrittenOf v s)
+  csr-keeps-unspoiled : (v : ℕ) → after (csrWrittenOf v)
   unfolding csrWrittenOf
-  csr-keeps-unspoiled =
+  csr-keeps-unspoiled v =
       by-request (csr.writtenOf v (s .core .csr) .request) (csr.writtenOf v (s .core .csr))
-      (csrLaws.written-keeps-valid v (s .core .csr) (u .core .csr))
+      (csrLaws.written-keeps-valid v (s .core .csr) (u .registers .csr))
 
 -- ---- a factor
 
@@ -133,59 +145,50 @@ zeroed-keeps-assign : (n : ℕ) (x : Scalers) → isValidAssign (x .assign) ≡ 
     → isValidAssign (scalers.zeroedOf n x .assign) ≡ true
 zeroed-keeps-assign n x h = by-cond (λ (y : Scalers). isValidAssign (y .assign) ≡ true) (eqb n 0) (λ e. h) (λ e. h)
 
-module _ (s : Supervisor) (ofType : OfType s) (u : Unspoiled s) where
-  -- a setting touches neither main, the user sync nor the CSR
-  setting-keeps-sound : (r : Setting) (v : ℕ) → isValidSetting r v ≡ true → SoundCore (coreSetOf r v (s .core))
-  unfolding coreSetOf
-  setting-keeps-sound Control v valid =
-      let c = u .core in
-      record { counters = c .counters; factors = c .factors; csr = c .csr; control = valid; assign = c .assign; main = c .main; count = c .count; waits = c .waits }
-  setting-keeps-sound (Factor input) v valid =
-      let c = u .core in
+module _ (s : Supervisor) (ofType : OfType s) (u : Unspoiled (s .core) (s .readout .branches)) where
+  -- a setting touches neither main, the user sync nor the branches
+  setting-keeps-unspoiled : (r : Setting) (v : ℕ) → isValidSetting r v ≡ true → after s u (settingWrittenOf r v)
+  unfolding coreSetOf readoutSetOf
+  setting-keeps-unspoiled Control v valid =
+      record {
+        bank = u .bank;
+        registers = record { csr = u .registers .csr; control = valid; assign = u .registers .assign };
+        sequencers = u .sequencers;
+        branches = u .branches;
+      }
+  setting-keeps-unspoiled (Factor input) v valid =
       let b = s .core .prescalers in
       record {
-        counters = loadLaws.with-factor-keeps-within input v b (ofType .eight) (c .counters);
-        factors = factor-keeps-valid input v b (ofType .eight) valid (c .factors);
-        csr = c .csr;
-        control = c .control;
-        assign = c .assign;
-        main = c .main;
-        count = c .count;
-        waits = c .waits;
+        bank = record {
+          counters = loadLaws.with-factor-keeps-within input v b (ofType .eight) (u .bank .counters);
+          factors = factor-keeps-valid input v b (ofType .eight) valid (u .bank .factors);
+        };
+        registers = u .registers;
+        sequencers = u .sequencers;
+        branches = u .branches;
       }
-  setting-keeps-sound RocEnable v valid = u .core
-  setting-keeps-sound Interval v valid =
-      let c = u .core in
-      record { counters = c .counters; factors = c .factors; csr = c .csr; control = c .control; assign = c .assign; main = c .main; count = c .count; waits = c .waits }
-  setting-keeps-sound (Timer n) v valid =
-      let c = u .core in
-      record { counters = c .counters; factors = c .factors; csr = c .csr; control = c .control; assign = c .assign; main = c .main; count = c .count; waits = c .waits }
-
-  -- nor the branches and what they may hold
-  setting-keeps-unspoiled : (r : Setting) (v : ℕ) → isValidSetting r v ≡ true → Unspoiled (settingWrittenOf r v s)
-  unfolding coreSetOf readoutSetOf
-  setting-keeps-unspoiled Control v valid = record { core = setting-keeps-sound Control v valid; branches = u .branches }
-  setting-keeps-unspoiled (Factor input) v valid =
-      record { core = setting-keeps-sound (Factor input) v valid; branches = u .branches }
-  setting-keeps-unspoiled RocEnable v valid = record { core = u .core; branches = u .branches }
-  setting-keeps-unspoiled Interval v valid = record { core = setting-keeps-sound Interval v valid; branches = u .branches }
-  setting-keeps-unspoiled (Timer n) v valid = record { core = setting-keeps-sound (Timer n) v valid; branches = u .branches }
+  setting-keeps-unspoiled RocEnable v valid = u
+  setting-keeps-unspoiled Interval v valid = u
+  setting-keeps-unspoiled (Timer n) v valid = u
 
   -- other scalers with a valid assign code
-  with-scalers : (x : Scalers) → isValidAssign (x .assign) ≡ true → Unspoiled (s ▷ withCore (s .core ▷ withScalers x))
+  with-scalers : (x : Scalers) → isValidAssign (x .assign) ≡ true
+      → Unspoiled (s .core ▷ withScalers x) (s .readout .branches)
   with-scalers x valid =
-      let c = u .core in
       record {
-        core = record { counters = c .counters; factors = c .factors; csr = c .csr; control = c .control; assign = valid; main = c .main; count = c .count; waits = c .waits };
+        bank = u .bank;
+        registers = record { csr = u .registers .csr; control = u .registers .control; assign = valid };
+        sequencers = u .sequencers;
         branches = u .branches;
       }
 
-  pub write-keeps-unspoiled : (r : Register) (v : ℕ) → isValidValue r v ≡ true → Unspoiled (writtenOf r v s)
+  pub write-keeps-unspoiled : (r : Register) (v : ℕ) → isValidValue r v ≡ true → after s u (writtenOf r v)
   unfolding writtenOf
-  write-keeps-unspoiled register.Csr v valid = csr-keeps-unspoiled v s u
+  write-keeps-unspoiled register.Csr v valid = csr-keeps-unspoiled s u v
   write-keeps-unspoiled (register.Setting r) v valid = setting-keeps-unspoiled r v valid
   write-keeps-unspoiled (register.Scaler n) v valid =
-      with-scalers (scalers.zeroedOf n (s .core .scalers)) (zeroed-keeps-assign n (s .core .scalers) (u .core .assign))
+      with-scalers (scalers.zeroedOf n (s .core .scalers))
+      (zeroed-keeps-assign n (s .core .scalers) (u .registers .assign))
   write-keeps-unspoiled register.Assign v valid = with-scalers (s .core .scalers ▷ scalers.withAssign v) valid
   write-keeps-unspoiled register.Absent v valid = u
 
