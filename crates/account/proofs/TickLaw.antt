@@ -32,9 +32,8 @@ use Rattle.supervisor.specs.declared.Answer.{Answer}
 use Rattle.supervisor.proofs.SupervisorLaws.{load-words, word-is-load}
 use Rattle.supervisor.proofs.SupervisorLaws.{unspoiled-is-well-formed, unspoiled-is-sound}
 use Rattle.account.specs.AccountFields.{Events, Account}
-use Rattle.account.specs.Account.{countsIn, add, sumsAfter, undecidedAfter, eventsAfter, isUnstopped, isThrough}
-use Rattle.account.specs.Account.{afterTick}
-use Rattle.account.proofs.Invariant.{Prescaling, Ordering, AddsUp, Invariant}
+use Rattle.account.specs.Account.{countsIn, sumsAfter, undecidedAfter, eventsAfter, passesAfter, afterTick}
+use Rattle.account.proofs.Invariant.{SettingsFollow, Ordering, AddsUp, Invariant}
 
 -- an event and a tag load one word, and nothing else loads any
 outcome-loads : (o : Outcome) → length (outcomeWords o) ≡ oneIfOf (isEvent o) + oneIfOf (isTag o)
@@ -67,7 +66,7 @@ module _ (memory : List ℕ) (x : Inputs) (s : Supervisor) where
   enabled = readout.linesAt (s .readout .roc)
 
   -- [Account.10] [Account.11] with the control that the account keeps
-  tick-adds-up : (a : Account) → a .control ≡ s .core .control .word → (i : ℕ) → i < inputs → AddsUp (a .sums) i
+  tick-adds-up : (a : Account) → a .settings .control ≡ s .core .control .word → (i : ℕ) → i < inputs → AddsUp (a .sums) i
       → AddsUp (sumsAfter (countsIn a x) answer (a .sums)) i
   unfolding tickedOf joinedOf coreStepOf readoutStepOf
   tick-adds-up a control i h sums =
@@ -75,20 +74,21 @@ module _ (memory : List ℕ) (x : Inputs) (s : Supervisor) where
       rw control (omega arith)
 
   -- [Account.12] [Account.17]
-  tick-keeps-prescaling : (a : Account) → a .control ≡ s .core .control .word
-      → Prescaling (s .core .prescalers) (a .factor) (a .n) (a .p)
-      → Prescaling (step .next .prescalers) (a .factor) (add (a .n) (isUnstopped (countsIn a x) answer))
-      (add (a .p) (isThrough (countsIn a x) answer))
+  tick-keeps-settings : (a : Account) → SettingsFollow (s .core .control .word) (s .core .prescalers) (a .settings) (a .passes)
+      → SettingsFollow (step .next .control .word) (step .next .prescalers) (a .settings)
+      (passesAfter (countsIn a x) answer (a .passes))
   unfolding tickedOf joinedOf coreStepOf readoutStepOf
-  tick-keeps-prescaling a control v =
+  tick-keeps-settings a v =
+      let q = a .passes in
       record {
+        control = v .control ∙ ap (λ c. c .word) (sym (laws.step-keeps-control room empty x memory (s .core)));
         eight = laws.step-keeps-lengths room empty x memory (s .core) (v .eight);
         factors = λ i.
             v .factors i
             ∙ sym (ap (λ (f : List ℕ). getD f i 0) (laws.step-keeps-factors room empty x memory (s .core)));
         count = λ i h.
-            rw control
-            (laws.step-keeps-pass-count room empty x memory (s .core) i (a .n i) (a .p i) h (v .eight) (v .count i h));
+            rw (v .control)
+            (laws.step-keeps-pass-count room empty x memory (s .core) i (q .n i) (q .p i) h (v .eight) (v .count i h));
       }
 
   -- [Account.13] [Account.14] [Account.18]
@@ -158,17 +158,23 @@ module _ (memory : List ℕ) (x : Inputs) (s : Supervisor) where
 
     -- ---- all of it
 
-    pub ticked-keeps-invariant : {branches : ℕ} (a : Account) → Invariant branches s a
-        → Invariant branches (tickedOf memory x s .next) (afterTick x answer a)
+    pub ticked-keeps-invariant : {branches : ℕ} (a : Account) → Invariant branches (s .core) (s .readout .branches) a
+        → Invariant branches (tickedOf memory x s .next .core) (tickedOf memory x s .next .readout .branches)
+        (afterTick x answer a)
     unfolding tickedOf joinedOf coreStepOf readoutStepOf readout.stepOf afterTick
     ticked-keeps-invariant a v =
+        let e = v .events in
+        let b = v .branches in
         record {
-          control = v .control ∙ ap (λ c. c .word) (sym (laws.step-keeps-control room empty x memory (s .core)));
-          prescaling = tick-keeps-prescaling a (v .control) (v .prescaling);
-          pulses = λ i h. tick-adds-up a (v .control) i h (v .pulses i h);
-          events = tick-balances-events (a .events) (v .decides) (v .events);
-          decides = tick-decides (a .events) (v .decides);
-          words = tick-counts-words a (v .words);
-          number = branches.step-keeps-length acks enabled (loadOf (step .outcome)) (s .readout .branches) ∙ v .number;
-          ordering = λ k h. tick-keeps-ordering k (rw (v .number) h) (a .finished k) (a .words) (v .ordering k h);
+          settings = tick-keeps-settings a (v .settings);
+          pulses = λ i h. tick-adds-up a (v .settings .control) i h (v .pulses i h);
+          events = record {
+            balance = tick-balances-events (a .events) (e .decides) (e .balance);
+            decides = tick-decides (a .events) (e .decides);
+          };
+          branches = record {
+            words = tick-counts-words a (b .words);
+            number = branches.step-keeps-length acks enabled (loadOf (step .outcome)) (s .readout .branches) ∙ b .number;
+            ordering = λ k h. tick-keeps-ordering k (rw (b .number) h) (a .finished k) (a .words) (b .ordering k h);
+          };
         }

@@ -5,11 +5,12 @@
 use Prim.Native.Nat.{ℕ, zero, suc, _-_, _<_}
 use mathlib.Core.Path.{_≡_, refl, sym, _∙_}
 use mathlib.Core.Bool.{Bool, true, false, cond}
-use mathlib.Core.List.{[]}
+use mathlib.Core.List.{List, []}
 use native.Mathlib.Omega.{arith}
 use lib.Dec.{eqb, lit≤}
 use lib.ListN.{length, getD, replicate}
 use borrow.Author.Tests.{eqb-true, eqb-false}
+use Rattle.bits.specs.Notation.{_▷_}
 use Rattle.registers.specs.Csr as csr
 use Rattle.registers.specs.Registers.{numberedOf}
 use Rattle.registers.specs.Control.{inputs}
@@ -28,15 +29,17 @@ use Rattle.prescaler.specs.declared.Prescalers.{Prescalers}
 use Rattle.prescaler.proofs.PrescalerLoadLaws as load
 use Rattle.branch.specs.Branch.{held}
 use Rattle.branch.specs.declared.Branch.{Branch}
-use Rattle.branches.specs.Readout.{emptiedOf}
+use Rattle.branches.specs.Readout.{freshBranches, emptiedOf}
 use Rattle.branches.proofs.ReadoutLaws as readout
+use Rattle.core.specs.CoreFields.{withCsr}
 use Rattle.core.specs.Core as core
+use Rattle.core.specs.declared.Core.{Core}
 use Rattle.supervisor.specs.Supervisor.{freshOf, resetOf, initializedOf}
 use Rattle.supervisor.specs.declared.Supervisor.{Supervisor}
 use Rattle.access.specs.Access.{afterCsrOf, csrWrittenOf, coreSetOf, readoutSetOf, settingWrittenOf, writtenOf}
-use Rattle.account.specs.AccountFields.{Account, put}
-use Rattle.account.specs.Account.{start, afterRequest, afterFactor, afterSetting, afterWrite}
-use Rattle.account.proofs.Invariant.{Prescaling, Ordering, Invariant}
+use Rattle.account.specs.AccountFields.{Settings, Passes, Account, withFactor, put}
+use Rattle.account.specs.Account.{noEvents, start, afterRequest, afterSetting, afterWrite}
+use Rattle.account.proofs.Invariant.{SettingsFollow, Ordering, BranchesFollow, Invariant}
 
 -- ---- fresh
 
@@ -49,34 +52,42 @@ replicate-reads-zero (suc n) (suc i) = replicate-reads-zero n i
 nothing-held : (b : Branch) → held b ≡ [] → Ordering b [] []
 nothing-held b none = record { order = none; eight = rw none (lit≤ tt) }
 
--- [Registers.4] [Account.4]
-pub fresh-has-invariant : (branches : ℕ) → Invariant branches (freshOf branches) start
-unfolding freshOf core.freshOf
-fresh-has-invariant n =
+-- fresh branches, and nothing loaded
+fresh-branches : (n : ℕ) → BranchesFollow n (freshBranches n) (start .finished) [] noEvents
+fresh-branches n =
     record {
-      control = refl;
-      prescaling = record {
-        eight = load.fresh-has-lengths;
-        factors = λ i. sym (replicate-reads-zero prescaledInputs i);
-        count = λ i h. load.fresh-has-pass-count i;
-      };
-      pulses = λ i h. refl;
-      events = refl;
-      decides = refl;
       words = refl;
       number = readout.fresh-has-length n;
       ordering = λ k h. nothing-held _ (readout.fresh-holds-nothing n k h);
     }
 
+-- [Registers.4] [Account.4]
+pub fresh-has-invariant : (branches : ℕ)
+    → Invariant branches (freshOf branches .core) (freshOf branches .readout .branches) start
+unfolding freshOf core.freshOf
+fresh-has-invariant n =
+    record {
+      settings = record {
+        control = refl;
+        eight = load.fresh-has-lengths;
+        factors = λ i. sym (replicate-reads-zero prescaledInputs i);
+        count = λ i h. load.fresh-has-pass-count i;
+      };
+      pulses = λ i h. refl;
+      events = record { balance = refl; decides = refl };
+      branches = fresh-branches n;
+    }
+
 -- ---- a factor
 
-module _ (b : Prescalers) {factor n p : ℕ → ℕ} (v : Prescaling b factor n p) (input x : ℕ) (range : Between 1 8 input)
+module _ (b : Prescalers) {control : ℕ} {s : Settings} {q : Passes} (v : SettingsFollow control b s q) (input x : ℕ)
+    (range : Between 1 8 input)
   where
     abbrev loaded : Prescalers
     loaded = withFactorOf input x b
 
     -- the input written stands as loaded, every other one as it was
-    factor-at : (i : ℕ) (written : Bool) → eqb i (input - 1) ≡ written → cond written x (factor i) ≡ factorAt loaded i
+    factor-at : (i : ℕ) (written : Bool) → eqb i (input - 1) ≡ written → cond written x (s .factor i) ≡ factorAt loaded i
     factor-at i true e =
         let same : i ≡ input - 1 = eqb-true i (input - 1) e in
         sym (load.with-factor-loads input x b i (omega arith) (omega arith) (v .eight) .factor)
@@ -85,7 +96,7 @@ module _ (b : Prescalers) {factor n p : ℕ → ℕ} (v : Prescaling b factor n 
         v .factors i ∙ sym (load.with-factor-keeps-others input x b i (λ same. other (omega arith)) .factor)
 
     count-at : (i : ℕ) → i < inputs → (written : Bool) → eqb i (input - 1) ≡ written
-        → PassCount (cond written 0 (n i)) (cond written 0 (p i)) (counterAt loaded i) (factorAt loaded i)
+        → PassCount (cond written 0 (q .n i)) (cond written 0 (q .p i)) (counterAt loaded i) (factorAt loaded i)
     count-at i h true e =
         let same : i ≡ input - 1 = eqb-true i (input - 1) e in
         load.with-factor-has-pass-count input x b i (omega arith) (omega arith) (v .eight)
@@ -95,102 +106,80 @@ module _ (b : Prescalers) {factor n p : ℕ → ℕ} (v : Prescaling b factor n 
         rw (at .counter, at .factor) (v .count i h)
 
     -- [Registers.2] [Account.7]
-    factor-keeps-prescaling : Prescaling loaded (put factor (input - 1) x) (put n (input - 1) 0) (put p (input - 1) 0)
-    factor-keeps-prescaling =
+    factor-keeps-settings : SettingsFollow control loaded (s ▷ withFactor (put (s .factor) (input - 1) x))
+        (record { n = put (q .n) (input - 1) 0; p = put (q .p) (input - 1) 0 })
+    factor-keeps-settings =
         record {
+          control = v .control;
           eight = load.with-factor-keeps-lengths input x b (v .eight);
           factors = λ i. factor-at i (eqb i (input - 1)) refl;
           count = λ i h. count-at i h (eqb i (input - 1)) refl;
         }
 
-module _ {branches : ℕ} (s : Supervisor) (a : Account) (v : Invariant branches s a) where
-  -- ---- RESET and INITIALIZE
+-- ---- RESET and INITIALIZE
 
+module _ {branches : ℕ} (c : Core) (bs : List Branch) (a : Account) (v : Invariant branches c bs a) where
   -- [CSRWrite.2d] [Account.9]
-  reset-keeps-invariant : Invariant branches (resetOf s) (afterRequest Reset a)
-  unfolding resetOf core.resetOf emptiedOf
+  reset-keeps-invariant : Invariant branches (core.resetOf c) (freshBranches (length bs)) (afterRequest Reset a)
+  unfolding core.resetOf
   reset-keeps-invariant =
       record {
-        control = v .control;
-        prescaling = record {
-          eight = load.reloaded-keeps-lengths (s .core .prescalers) (v .prescaling .eight);
-          factors = v .prescaling .factors;
-          count = λ i h. load.reloaded-has-pass-count (s .core .prescalers) i;
+        settings = record {
+          control = v .settings .control;
+          eight = load.reloaded-keeps-lengths (c .prescalers) (v .settings .eight);
+          factors = v .settings .factors;
+          count = λ i h. load.reloaded-has-pass-count (c .prescalers) i;
         };
         pulses = λ i h. refl;
-        events = refl;
-        decides = refl;
-        words = refl;
-        number = readout.fresh-has-length (length (s .readout .branches)) ∙ v .number;
-        ordering = λ k h. nothing-held _ (readout.fresh-holds-nothing (length (s .readout .branches)) k (rw (v .number) h));
+        events = record { balance = refl; decides = refl };
+        branches = rw (v .branches .number) (fresh-branches branches);
       }
 
-  -- [CSRWrite.1] [Account.8]
-  initialize-keeps-invariant : Invariant branches (initializedOf s) (afterRequest Initialize a)
-  unfolding initializedOf
-  initialize-keeps-invariant = rw (v .number) (fresh-has-invariant branches)
+-- ---- a setting
 
-  -- ---- a setting
+module _ {branches : ℕ} (s : Supervisor) (a : Account) (v : Invariant branches (s .core) (s .readout .branches) a) where
+  abbrev after : (Supervisor → Supervisor) → Account → Type 0
+  after f b = Invariant branches (f s .core) (f s .readout .branches) b
 
-  -- [Account.6]
-  control-keeps-invariant : (x : ℕ) → Invariant branches (settingWrittenOf Control x s) (afterSetting Control x a)
+  -- [CSRWrite.1] [CSRWrite.2d]: a CSR write by itself changes nothing that the account follows
+  request-keeps-invariant : (q : Request) (w : CsrWrite) → after (afterCsrOf q w) (afterRequest q a)
+  unfolding initializedOf resetOf emptiedOf
+  request-keeps-invariant Initialize w = rw (v .branches .number) (fresh-has-invariant branches)
+  request-keeps-invariant Reset w = reset-keeps-invariant (s .core ▷ withCsr (w .next)) (s .readout .branches) a v
+  request-keeps-invariant Nothing w = v
+
+  -- [Account.6] [Account.7]
+  setting-keeps-invariant : (r : Setting) → SettingInRange r → (x : ℕ) → after (settingWrittenOf r x) (afterSetting r x a)
   unfolding coreSetOf readoutSetOf
-  control-keeps-invariant x =
+  setting-keeps-invariant Control h x =
+      let f = v .settings in
       record {
-        control = refl;
-        prescaling = v .prescaling;
+        settings = record { control = refl; eight = f .eight; factors = f .factors; count = f .count };
         pulses = v .pulses;
         events = v .events;
-        decides = v .decides;
-        words = v .words;
-        number = v .number;
-        ordering = v .ordering;
+        branches = v .branches;
       }
-
-  factor-keeps-invariant : (input x : ℕ) → Between 1 8 input
-      → Invariant branches (settingWrittenOf (Factor input) x s) (afterFactor input x a)
-  unfolding coreSetOf readoutSetOf
-  factor-keeps-invariant input x range =
+  setting-keeps-invariant (Factor input) h x =
       record {
-        control = v .control;
-        prescaling = factor-keeps-prescaling (s .core .prescalers) (v .prescaling) input x range;
+        settings = factor-keeps-settings (s .core .prescalers) (v .settings) input x h;
         pulses = v .pulses;
         events = v .events;
-        decides = v .decides;
-        words = v .words;
-        number = v .number;
-        ordering = v .ordering;
+        branches = v .branches;
       }
-
-  setting-keeps-invariant : (r : Setting) → SettingInRange r → (x : ℕ)
-      → Invariant branches (settingWrittenOf r x s) (afterSetting r x a)
-  unfolding coreSetOf readoutSetOf
-  setting-keeps-invariant Control h x = control-keeps-invariant x
-  setting-keeps-invariant (Factor input) h x = factor-keeps-invariant input x h
   setting-keeps-invariant RocEnable h x = v
   setting-keeps-invariant Interval h x = v
   setting-keeps-invariant (Timer n) h x = v
 
--- ---- every register
+  -- ---- every register
 
--- a CSR write by itself changes nothing that the account follows
-request-keeps-invariant : {branches : ℕ} (q : Request) (w : CsrWrite) (s : Supervisor) (a : Account)
-    → Invariant branches s a → Invariant branches (afterCsrOf q w s) (afterRequest q a)
-request-keeps-invariant Initialize w s a v = initialize-keeps-invariant s a v
-request-keeps-invariant Reset w s a v = reset-keeps-invariant _ a v
-request-keeps-invariant Nothing w s a v = v
+  register-keeps-invariant : (r : Register) → InRange r → (x : ℕ) → after (writtenOf r x) (afterWrite r x a)
+  unfolding writtenOf csrWrittenOf csr.writtenOf
+  register-keeps-invariant Csr h x = request-keeps-invariant (csr.requestedOf x) _
+  register-keeps-invariant (register.Setting r) h x = setting-keeps-invariant r h x
+  register-keeps-invariant (Scaler n) h x = v
+  register-keeps-invariant Assign h x = v
+  register-keeps-invariant Absent h x = v
 
-register-keeps-invariant : {branches : ℕ} (r : Register) → InRange r → (x : ℕ) (s : Supervisor) (a : Account)
-    → Invariant branches s a → Invariant branches (writtenOf r x s) (afterWrite r x a)
-unfolding writtenOf csrWrittenOf csr.writtenOf
-register-keeps-invariant Csr h x s a v = request-keeps-invariant (csr.requestedOf x) _ s a v
-register-keeps-invariant (register.Setting r) h x s a v = setting-keeps-invariant s a v r h x
-register-keeps-invariant (Scaler n) h x s a v = v
-register-keeps-invariant Assign h x s a v = v
-register-keeps-invariant Absent h x s a v = v
-
--- [Account.5]–[Account.9]
-pub write-keeps-invariant : {branches : ℕ} (number x : ℕ) (s : Supervisor) (a : Account) → Invariant branches s a
-    → Invariant branches (writtenOf (numberedOf number) x s) (afterWrite (numberedOf number) x a)
-write-keeps-invariant number x s a v =
-    register-keeps-invariant (numberedOf number) (numbered-is-in-range number) x s a v
+  -- [Account.5]–[Account.9]
+  pub write-keeps-invariant : (number x : ℕ) → after (writtenOf (numberedOf number) x) (afterWrite (numberedOf number) x a)
+  write-keeps-invariant number x = register-keeps-invariant (numberedOf number) (numbered-is-in-range number) x

@@ -1,6 +1,6 @@
 -- The account of demand 3: what a bystander keeps, from the log of asks and replies alone.
 --     document 01    "The account of demand 3"
---     startOf        the account at the start, at a control value and factors
+--     startOf        the account at the start, at a control value and factors that were written
 --     afterTick      after a tick that was carried out
 --     afterWrite     after a register write that was carried out
 --     accountOf      after a whole log; by its type it sees neither record nor memory
@@ -34,7 +34,8 @@ use Rattle.core.specs.declared.lines.Inputs.{Inputs}
 use Rattle.supervisor.specs.declared.Answer.{Answer}
 use Rattle.declines.specs.Answers.{Reply, declined, done, value, ticked}
 use Rattle.declines.specs.Runs.{Ask, writeRegister, readRegister, writeMemory, readMemory, tick, Entry}
-use Rattle.account.specs.AccountFields.{Sums, Events, Account, withControl, withFactor, withN, withP, put}
+use Rattle.account.specs.AccountFields.{Settings, Passes, Sums, Events, Account}
+use Rattle.account.specs.AccountFields.{withSettings, withPasses, withControl, withFactor, put}
 
 -- ---- the start
 
@@ -45,19 +46,26 @@ abbrev pub noEvents : Events
 noEvents = record { accepted = 0; cleared = 0; loaded = 0; tags = 0; undecided = false }
 
 -- [Account.4] [Account.9] all counts 0, all lists empty, nothing undecided
-abbrev pub startOf : (control : ℕ) (factor : ℕ → ℕ) → Account
-startOf control factor =
-    record { control = control; factor = factor; n = λ i. 0; p = λ i. 0; sums = noSums; events = noEvents; words = []; finished = λ k. [] }
+abbrev pub startOf : Settings → Account
+startOf settings =
+    record {
+      settings = settings;
+      passes = record { n = λ i. 0; p = λ i. 0 };
+      sums = noSums;
+      events = noEvents;
+      words = [];
+      finished = λ k. [];
+    }
 
 -- [Account.4] control 0, every factor 0
 abbrev pub start : Account
-start = startOf 0 (λ i. 0)
+start = startOf (record { control = 0; factor = λ i. 0 })
 
 -- ---- a tick carried out
 
 -- [Account.10] the pulse rule, with the control that the account keeps
 abbrev pub countsIn : Account → Inputs → (i : ℕ) → Bool
-countsIn a x i = counts (record { word = a .control }) (hasStrobe (x .lines)) (x .triggers) i
+countsIn a x i = counts (record { word = a .settings .control }) (hasStrobe (x .lines)) (x .triggers) i
 
 -- one more where the test holds
 abbrev pub add : (ℕ → ℕ) → (ℕ → Bool) → ℕ → ℕ
@@ -100,14 +108,15 @@ isUnstopped counted y i = counted i && not (bitAt (y .masks .stopped) i)
 abbrev pub isThrough : (counted : ℕ → Bool) → Answer → (i : ℕ) → Bool
 isThrough counted y i = counted i && (not (bitAt (y .masks .stopped) i) && not (bitAt (y .masks .scaled) i))
 
+abbrev pub passesAfter : (counted : ℕ → Bool) → Answer → Passes → Passes
+passesAfter counted y q = record { n = add (q .n) (isUnstopped counted y); p = add (q .p) (isThrough counted y) }
+
 -- [Account.15] a loaded word joins the words, each finished word its branch's
 unfoldable pub afterTick : Inputs → Answer → Account → Account
 afterTick x y a =
     record {
-      control = a .control;
-      factor = a .factor;
-      n = add (a .n) (isUnstopped (countsIn a x) y);
-      p = add (a .p) (isThrough (countsIn a x) y);
+      settings = a .settings;
+      passes = passesAfter (countsIn a x) y (a .passes);
       sums = sumsAfter (countsIn a x) y (a .sums);
       events = eventsAfter y (a .events);
       words = a .words ++ outcomeWords (y .outcome);
@@ -119,17 +128,18 @@ afterTick x y a =
 -- [Account.8] [Account.9]
 abbrev pub afterRequest : Request → Account → Account
 afterRequest Initialize a = start
-afterRequest Reset a = startOf (a .control) (a .factor)
+afterRequest Reset a = startOf (a .settings)
 afterRequest Nothing a = a
 
 -- [Account.7] input is counted from 1; its own n and p start anew
 abbrev pub afterFactor : (input v : ℕ) → Account → Account
 afterFactor input v a =
-    a ▷ withFactor (put (a .factor) (input - 1) v) ▷ withN (put (a .n) (input - 1) 0) ▷ withP (put (a .p) (input - 1) 0)
+    a ▷ withSettings (a .settings ▷ withFactor (put (a .settings .factor) (input - 1) v))
+    ▷ withPasses (record { n = put (a .passes .n) (input - 1) 0; p = put (a .passes .p) (input - 1) 0 })
 
 -- [Account.5] [Account.6] every other setting leaves it alone
 abbrev pub afterSetting : Setting → (v : ℕ) → Account → Account
-afterSetting Control v a = a ▷ withControl v
+afterSetting Control v a = a ▷ withSettings (a .settings ▷ withControl v)
 afterSetting (Factor input) v a = afterFactor input v a
 afterSetting RocEnable v a = a
 afterSetting Interval v a = a
@@ -145,19 +155,27 @@ afterWrite Absent v a = a
 
 -- ---- a whole log
 
--- [Account.5] declined calls, reads and memory writes leave it alone
+-- [Account.5] of the calls that end in "done" a register write alone counts
+abbrev pub afterDone : Ask → Account → Account
+afterDone (writeRegister number v) a = afterWrite (numberedOf number) v a
+afterDone (readRegister number) a = a
+afterDone (writeMemory place word) a = a
+afterDone (readMemory place) a = a
+afterDone (tick x) a = a
+
+abbrev pub afterTicked : Ask → Answer → Account → Account
+afterTicked (writeRegister number v) y a = a
+afterTicked (readRegister number) y a = a
+afterTicked (writeMemory place word) y a = a
+afterTicked (readMemory place) y a = a
+afterTicked (tick x) y a = afterTick x y a
+
+-- [Account.5] a decline and a value read leave it alone, whatever was asked
 abbrev pub afterEntry : Ask → Reply → Account → Account
-afterEntry (writeRegister number v) done a = afterWrite (numberedOf number) v a
-afterEntry (writeRegister number v) (declined k) a = a
-afterEntry (writeRegister number v) (value w) a = a
-afterEntry (writeRegister number v) (ticked y) a = a
-afterEntry (readRegister number) reply a = a
-afterEntry (writeMemory place word) reply a = a
-afterEntry (readMemory place) reply a = a
-afterEntry (tick x) (ticked y) a = afterTick x y a
-afterEntry (tick x) (declined k) a = a
-afterEntry (tick x) done a = a
-afterEntry (tick x) (value w) a = a
+afterEntry ask (declined n) a = a
+afterEntry ask (value v) a = a
+afterEntry ask done a = afterDone ask a
+afterEntry ask (ticked y) a = afterTicked ask y a
 
 -- [Account.3]
 abbrev pub accountOf : List Entry → Account → Account

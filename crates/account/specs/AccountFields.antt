@@ -1,8 +1,10 @@
 -- The account's record, and changes of its parts. Nothing of document 01 is decided here.
 --     Account     what a bystander keeps; inputs and branches are counted from 0
+--     Settings    the control and the factors that were written
+--     Passes      by input: how many of its pulses met its prescaler, and how many passed
 --     Sums        by input: how many of its pulses counted, and how often each mask has its bit
 --     Events      how events went on
---     withControl and so on: one part changed
+--     withSettings and so on: one part changed
 --     put f k v   the rule f with v at k
 -- Assumes nothing.
 use Prim.Native.Nat.{ℕ}
@@ -28,30 +30,37 @@ pub record Events : Type 0 where
   -- an event is accepted and neither cleared nor loaded
   pub undecided : Bool
 
-pub record Account : Type 0 where
+-- what was written, as a bystander knows it
+pub record Settings : Type 0 where
   pub control : ℕ
   -- of each input
   pub factor : ℕ → ℕ
-  -- counted pulses not stopped, and those passed, since its factor was last written, RESET or INITIALIZE
+
+-- of each input: counted pulses not stopped, and those passed, since its factor was last written, RESET or INITIALIZE
+pub record Passes : Type 0 where
   pub n : ℕ → ℕ
   pub p : ℕ → ℕ
+
+pub record Account : Type 0 where
+  pub settings : Settings
+  pub passes : Passes
   pub sums : Sums
   pub events : Events
   -- the words loaded, and of each branch the words finished, in order
   pub words : List ℕ
   pub finished : ℕ → List ℕ
 
-abbrev pub withControl : ℕ → Account → Account
-withControl v a = record { control = v; factor = a .factor; n = a .n; p = a .p; sums = a .sums; events = a .events; words = a .words; finished = a .finished }
+abbrev pub withSettings : Settings → Account → Account
+withSettings v a = record { settings = v; passes = a .passes; sums = a .sums; events = a .events; words = a .words; finished = a .finished }
 
-abbrev pub withFactor : (ℕ → ℕ) → Account → Account
-withFactor v a = record { control = a .control; factor = v; n = a .n; p = a .p; sums = a .sums; events = a .events; words = a .words; finished = a .finished }
+abbrev pub withPasses : Passes → Account → Account
+withPasses v a = record { settings = a .settings; passes = v; sums = a .sums; events = a .events; words = a .words; finished = a .finished }
 
-abbrev pub withN : (ℕ → ℕ) → Account → Account
-withN v a = record { control = a .control; factor = a .factor; n = v; p = a .p; sums = a .sums; events = a .events; words = a .words; finished = a .finished }
+abbrev pub withControl : ℕ → Settings → Settings
+withControl v s = record { control = v; factor = s .factor }
 
-abbrev pub withP : (ℕ → ℕ) → Account → Account
-withP v a = record { control = a .control; factor = a .factor; n = a .n; p = v; sums = a .sums; events = a .events; words = a .words; finished = a .finished }
+abbrev pub withFactor : (ℕ → ℕ) → Settings → Settings
+withFactor v s = record { control = s .control; factor = v }
 
 abbrev pub put : (ℕ → ℕ) → (k v : ℕ) → ℕ → ℕ
 put f k v i = if eqb i k then v else f i

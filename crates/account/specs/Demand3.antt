@@ -48,7 +48,7 @@ pub record Balanced (branches : ℕ) (s : Supervisor) (a : Account) : Type 0 whe
   -- [Account.18] main holds the undecided one
   pub decides : a .events .undecided ≡ isUndecided (s .core .main .state)
   -- [Account.17] of n pulses not stopped since the factor was written n div (F + 1) passed
-  pub prescales : (i : ℕ) → i < inputs → a .p i ≡ a .n i / (a .factor i + 1)
+  pub prescales : (i : ℕ) → i < inputs → a .passes .p i ≡ a .passes .n i / (a .settings .factor i + 1)
 
 -- [Account.1]
 unfoldable pub Demand3 : (branches : ℕ) → Type 0

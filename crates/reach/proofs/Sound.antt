@@ -102,7 +102,7 @@ module _ (c : Core) (bs : List Branch) where
   unfolding isSoundOf
   from-tests h branches =
       let clause : (i : ℕ) → i < 5 → _ =
-          all-true-at (bankClauses c ++ registerClauses c) (all-true-left (bankClauses c ++ registerClauses c) (sequencerClauses c) h)
+      all-true-at (bankClauses c ++ registerClauses c) (all-true-left (bankClauses c ++ registerClauses c) (sequencerClauses c) h)
       in
       record {
         bank = record { counters = clause 0 (lit< tt); factors = clause 1 (lit< tt) };

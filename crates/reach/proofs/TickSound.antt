@@ -194,42 +194,42 @@ test-gives-room lock lock4 bs k h = go (readout.hasRoomOf lock lock4 bs) refl
         omega (arith, none, held-length (branchAt bs k))
 
 module _ (memory : List ℕ) (x : Inputs) (s : Supervisor) (ofType : OfType s)
-  (u : Unspoiled (s .core) (s .readout .branches))
+    (u : Unspoiled (s .core) (s .readout .branches))
   where
-  pub tick-keeps-type : OfType (tickedOf memory x s .next)
-  unfolding tickedOf joinedOf coreStepOf
-  tick-keeps-type =
-      let lock = csr.locksRoc (s .core .csr) in
-      let lock4 = csr.locksBranch4 (s .core .csr) in
-      let room = readout.hasRoomOf lock lock4 (s .readout .branches) in
-      let empty = readout.isEmptyOf (s .readout .branches) in
-      record {
-        eight = coreLaws.step-keeps-lengths room empty x memory (s .core) (ofType .eight);
-        interval = rw (interval-stays room empty x memory (s .core)) (ofType .interval);
-      }
+    pub tick-keeps-type : OfType (tickedOf memory x s .next)
+    unfolding tickedOf joinedOf coreStepOf
+    tick-keeps-type =
+        let lock = csr.locksRoc (s .core .csr) in
+        let lock4 = csr.locksBranch4 (s .core .csr) in
+        let room = readout.hasRoomOf lock lock4 (s .readout .branches) in
+        let empty = readout.isEmptyOf (s .readout .branches) in
+        record {
+          eight = coreLaws.step-keeps-lengths room empty x memory (s .core) (ofType .eight);
+          interval = rw (interval-stays room empty x memory (s .core)) (ofType .interval);
+        }
 
-  pub tick-keeps-unspoiled : Unspoiled (tickedOf memory x s .next .core) (tickedOf memory x s .next .readout .branches)
-  unfolding tickedOf joinedOf coreStepOf readoutStepOf readout.stepOf
-  tick-keeps-unspoiled =
-      let lock = csr.locksRoc (s .core .csr) in
-      let lock4 = csr.locksBranch4 (s .core .csr) in
-      let room = readout.hasRoomOf lock lock4 (s .readout .branches) in
-      let empty = readout.isEmptyOf (s .readout .branches) in
-      let acks = readout.linesAt (x .acks) in
-      let enabled = readout.linesAt (s .readout .roc) in
-      let bs = s .readout .branches in
-      let step : CoreStep = core.stepOf room empty x memory (s .core) in
-      record {
-        bank = tick-keeps-bank room empty x memory (s .core) (u .bank);
-        registers = tick-keeps-registers room empty x memory (s .core) (u .registers);
-        sequencers = tick-keeps-sequencers room empty x memory (s .core) (u .sequencers) (ofType .interval);
-        branches = λ k h.
-            let before = rw (laws.step-keeps-length acks enabled _ bs) at h in
-            branch-stays-sound acks enabled (core.allowsEightOf (s .core)) bs (u .branches) k before (step .outcome)
-            (core.allowsEightOf (step .next))
-            (coreLaws.step-loads-six-bits room empty x memory (s .core))
-            (load-allows-eight room empty x memory (s .core))
-            (coreLaws.step-loads-below-eight room empty x memory (s .core) (sound-test (s .core) bs u))
-            (λ e e′.
-            test-gives-room lock lock4 bs k before (leaves-by-test room empty x memory (s .core) e e′));
-      }
+    pub tick-keeps-unspoiled : Unspoiled (tickedOf memory x s .next .core) (tickedOf memory x s .next .readout .branches)
+    unfolding tickedOf joinedOf coreStepOf readoutStepOf readout.stepOf
+    tick-keeps-unspoiled =
+        let lock = csr.locksRoc (s .core .csr) in
+        let lock4 = csr.locksBranch4 (s .core .csr) in
+        let room = readout.hasRoomOf lock lock4 (s .readout .branches) in
+        let empty = readout.isEmptyOf (s .readout .branches) in
+        let acks = readout.linesAt (x .acks) in
+        let enabled = readout.linesAt (s .readout .roc) in
+        let bs = s .readout .branches in
+        let step : CoreStep = core.stepOf room empty x memory (s .core) in
+        record {
+          bank = tick-keeps-bank room empty x memory (s .core) (u .bank);
+          registers = tick-keeps-registers room empty x memory (s .core) (u .registers);
+          sequencers = tick-keeps-sequencers room empty x memory (s .core) (u .sequencers) (ofType .interval);
+          branches = λ k h.
+              let before = rw (laws.step-keeps-length acks enabled _ bs) at h in
+              branch-stays-sound acks enabled (core.allowsEightOf (s .core)) bs (u .branches) k before (step .outcome)
+              (core.allowsEightOf (step .next))
+              (coreLaws.step-loads-six-bits room empty x memory (s .core))
+              (load-allows-eight room empty x memory (s .core))
+              (coreLaws.step-loads-below-eight room empty x memory (s .core) (sound-test (s .core) bs u))
+              (λ e e′.
+              test-gives-room lock lock4 bs k before (leaves-by-test room empty x memory (s .core) e e′));
+        }
