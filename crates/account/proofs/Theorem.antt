@@ -1,21 +1,22 @@
--- Demand 3, proved: every run balances, for any number of branches. By induction over the list of calls.
---     call-keeps-invariant         one call, carried out or declined
---     run-keeps-invariant          a list of calls
+-- Demand 3, proved: every run balances, for any number of branches. By induction over the run.
+--     end-keeps-invariant          one call, by how it ends
+--     chain-keeps-invariant        a chain of them
 --     invariant-implies-balanced   the statement, from the invariant
 --     every-run-balances           the theorem
 --     any-two-branches             any two branches have the same words finished and held
 -- Assumes nothing.
 use Prim.Native.Nat.{ℕ, _<_}
 use mathlib.Core.Path.{_≡_, sym, _∙_}
-use mathlib.Core.List.{List, [], _∷_}
+use mathlib.Core.List.{List}
 use Rattle.prescaler.specs.PrescalerFields.{counterAt, factorAt}
 use Rattle.prescaler.proofs.PrescalerLaws.{pass-count-divides}
 use Rattle.supervisor.specs.Supervisor.{freshOf}
 use Rattle.supervisor.specs.declared.Supervisor.{Supervisor}
 use Rattle.declines.specs.Answers.{Reply}
 use Rattle.declines.specs.Calls.{markedOf}
-use Rattle.declines.specs.Runs.{Ask, Call, callOf, recordAfter, logOf}
-use Rattle.declines.proofs.CallEnds.{End, refused, refusedActive, wrote, gave, stored, ran, call-ends}
+use Rattle.declines.specs.Runs.{Ask, Call, recordAfter, Entry, logOf}
+use Rattle.declines.proofs.CallEnds.{End, refused, refusedActive, wrote, gave, stored, ran}
+use Rattle.declines.proofs.CallEnds.{Chain, stop, then, run-is-chain}
 use Rattle.account.specs.AccountFields.{Account}
 use Rattle.account.specs.Account.{start, afterEntry, accountOf}
 use Rattle.account.specs.Demand3.{Balanced, Demand3, wordsOf}
@@ -40,16 +41,12 @@ end-keeps-invariant a v (gave ask n) = v
 end-keeps-invariant a v (stored place word) = v
 end-keeps-invariant {memory = memory} {s = s} a v (ran x clean) = ticked-keeps-invariant memory x s clean a v
 
-pub call-keeps-invariant : {branches : ℕ} (s : Supervisor) (a : Account) → Kept branches s a → (c : Call)
-    → Kept branches (callOf c s .next) (afterEntry (c .ask) (callOf c s .reply) a)
-call-keeps-invariant s a v c = end-keeps-invariant a v (call-ends (c .memory) s (c .ask))
+-- ---- the whole run
 
--- ---- the whole list
-
-pub run-keeps-invariant : {branches : ℕ} (calls : List Call) (s : Supervisor) (a : Account) → Kept branches s a
-    → Kept branches (recordAfter calls s) (accountOf (logOf calls s) a)
-run-keeps-invariant [] s a v = v
-run-keeps-invariant (c ∷ cs) s a v = run-keeps-invariant cs _ _ (call-keeps-invariant s a v c)
+pub chain-keeps-invariant : {branches : ℕ} {log : List Entry} {s last : Supervisor} (a : Account) → Kept branches s a
+    → Chain log s last → Kept branches last (accountOf log a)
+chain-keeps-invariant a v stop = v
+chain-keeps-invariant a v (then end rest) = chain-keeps-invariant _ (end-keeps-invariant a v end) rest
 
 pub invariant-implies-balanced : {branches : ℕ} (s : Supervisor) (a : Account) → Kept branches s a
     → Balanced branches s a
@@ -73,7 +70,7 @@ pub every-run-balances : (branches : ℕ) → Demand3 branches
 unfolding Demand3
 every-run-balances branches calls =
     invariant-implies-balanced (recordAfter calls (freshOf branches)) (accountOf (logOf calls (freshOf branches)) start)
-    (run-keeps-invariant calls (freshOf branches) start (fresh-has-invariant branches))
+    (chain-keeps-invariant start (fresh-has-invariant branches) (run-is-chain calls (freshOf branches)))
 
 -- ---- any two branches
 

@@ -1,20 +1,20 @@
 -- No run reaches a spoiled record: every call keeps a record that is not spoiled so, and the fresh one is none.
 --     UnspoiledOfType        what every call keeps: not spoiled, and of the code's types
 --     call-keeps-unspoiled   every call, on every record of the code's types that is not spoiled, reachable or not
---     run-keeps-unspoiled    every list of calls
 --     never-spoiled          from a fresh supervisor of any number of branches
 -- Assumes nothing.
 use Prim.Native.Nat.{ℕ}
 use mathlib.Core.Path.{_≡_}
 use mathlib.Core.Bool.{false}
-use mathlib.Core.List.{List, [], _∷_}
+use mathlib.Core.List.{List}
 use Rattle.registers.specs.Registers.{numberedOf}
 use Rattle.supervisor.specs.Supervisor.{freshOf, isSpoiledOf}
 use Rattle.supervisor.specs.declared.Supervisor.{Supervisor}
 use Rattle.declines.specs.Answers.{Reply}
 use Rattle.declines.specs.Calls.{markedOf}
-use Rattle.declines.specs.Runs.{Ask, Call, callOf, recordAfter}
+use Rattle.declines.specs.Runs.{Ask, Call, callOf, recordAfter, Entry}
 use Rattle.declines.proofs.CallEnds.{End, refused, refusedActive, wrote, gave, stored, ran, call-ends}
+use Rattle.declines.proofs.CallEnds.{Chain, stop, then, run-is-chain}
 use Rattle.declines.specs.Refusals.{statusBit}
 use Rattle.reach.specs.NeverSpoiled.{OfType, KeepsUnspoiled, NeverSpoiled}
 use Rattle.reach.proofs.Sound.{Unspoiled, unspoiled-from-test, unspoiled-to-test}
@@ -54,24 +54,21 @@ end-keeps-fine {memory = memory} {s = s} fine (ran x clean) =
       unspoiled = tick-keeps-unspoiled memory x s (fine .ofType) (fine .unspoiled);
     }
 
-call-keeps-fine : (c : Call) (s : Supervisor) → UnspoiledOfType s → UnspoiledOfType (callOf c s .next)
-call-keeps-fine c s fine = end-keeps-fine fine (call-ends (c .memory) s (c .ask))
+chain-keeps-fine : {log : List Entry} {s last : Supervisor} → UnspoiledOfType s → Chain log s last → UnspoiledOfType last
+chain-keeps-fine fine stop = fine
+chain-keeps-fine fine (then end rest) = chain-keeps-fine (end-keeps-fine fine end) rest
 
 -- ---- the promises
 
 pub call-keeps-unspoiled : (c : Call) (s : Supervisor) → OfType s → isSpoiledOf s ≡ false → KeepsUnspoiled c s
 call-keeps-unspoiled c s ofType clean =
-    let fine = call-keeps-fine c s (record { ofType = ofType; unspoiled = unspoiled-from-test s clean }) in
+    let before : UnspoiledOfType s = record { ofType = ofType; unspoiled = unspoiled-from-test s clean } in
+    let fine = end-keeps-fine before (call-ends (c .memory) s (c .ask)) in
     record { ofType = fine .ofType; unspoiled = unspoiled-to-test (callOf c s .next) (fine .unspoiled) }
-
-run-keeps-unspoiled : (calls : List Call) (s : Supervisor) → UnspoiledOfType s → UnspoiledOfType (recordAfter calls s)
-run-keeps-unspoiled [] s fine = fine
-run-keeps-unspoiled (c ∷ cs) s fine =
-    run-keeps-unspoiled cs (callOf c s .next) (call-keeps-fine c s fine)
 
 pub never-spoiled : (branches : ℕ) → NeverSpoiled branches
 unfolding NeverSpoiled
 never-spoiled branches calls =
     let fresh : UnspoiledOfType (freshOf branches) = record { ofType = fresh-is-of-type branches; unspoiled = fresh-is-unspoiled branches } in
     unspoiled-to-test (recordAfter calls (freshOf branches))
-    (run-keeps-unspoiled calls (freshOf branches) fresh .unspoiled)
+    (chain-keeps-fine fresh (run-is-chain calls (freshOf branches)) .unspoiled)
