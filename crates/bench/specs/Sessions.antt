@@ -12,20 +12,15 @@ use mathlib.Core.List.{List, [], _∷_}
 use lib.ListN.{getD}
 use Rattle.bits.specs.Bits.{oneIfOf}
 use Rattle.branch.specs.Slots.{wordOf}
-use Rattle.branches.specs.Readout.{moduleBranches, noSide}
+use Rattle.branches.specs.Readout.{noSide}
 use Rattle.sequencer.specs.States.{isCleared, outcomeWords}
-use Rattle.supervisor.specs.Supervisor.{freshOf}
 use Rattle.supervisor.specs.declared.Supervisor.{Supervisor}
 use Rattle.supervisor.specs.declared.Answer.{Answer}
 use Rattle.declines.specs.Answers.{Reply, declined, done, value, ticked, declineOrZero}
 use Rattle.declines.specs.Runs.{Ask, writeRegister, readRegister, writeMemory, readMemory, tick}
-use Rattle.declines.specs.Runs.{Result, askOf, memoryAfter, zeroMemory, Call, Entry, logOf}
+use Rattle.declines.specs.Runs.{Result, askOf, memoryAfter, Session, session, freshSession, after, Call, Entry, logOf}
 
--- ---- asks over one memory
-
--- [Console.1] a fresh record, and all memory words 0
-abbrev pub fresh : Supervisor
-fresh = freshOf moduleBranches
+-- ---- the replies to a session's asks
 
 -- the machine of Runs, a line for each ask. An edit of this crate bends one of the lines: a wrong machine, which some example
 -- must tell from this one
@@ -37,28 +32,29 @@ answered (readMemory place) memory s = askOf (readMemory place) memory s
 answered (tick x) memory s = askOf (tick x) memory s
 
 -- each ask is made of the record, and lent the memory, that the one before left
-abbrev pub repliesBy : (Ask → List ℕ → Supervisor → Result) → List Ask → List ℕ → Supervisor → List Reply
-repliesBy machine [] memory s = []
-repliesBy machine (a ∷ rest) memory s =
-    machine a memory s .reply ∷ repliesBy machine rest (memoryAfter a memory s) (machine a memory s .next)
+abbrev pub repliesBy : (Ask → List ℕ → Supervisor → Result) → List Ask → Session → List Reply
+repliesBy machine [] z = []
+repliesBy machine (a ∷ rest) z =
+    machine a (z .memory) (z .supervisor) .reply
+    ∷ repliesBy machine rest
+    (session (machine a (z .memory) (z .supervisor) .next) (memoryAfter a (z .memory) (z .supervisor)))
 
 abbrev pub repliesTo : List Ask → List Reply
-repliesTo asks = repliesBy answered asks zeroMemory fresh
+repliesTo asks = repliesBy answered asks freshSession
 
 -- ---- the same asks as calls of a run
 
 -- each is lent the memory that the call before left
-abbrev pub callsOf : List Ask → List ℕ → Supervisor → List Call
-callsOf [] memory s = []
-callsOf (a ∷ rest) memory s =
-    record { ask = a; memory = memory } ∷ callsOf rest (memoryAfter a memory s) (askOf a memory s .next)
+abbrev pub callsOf : List Ask → Session → List Call
+callsOf [] z = []
+callsOf (a ∷ rest) z = record { ask = a; memory = z .memory } ∷ callsOf rest (after a z)
 
 abbrev pub repliesIn : List Entry → List Reply
 repliesIn [] = []
 repliesIn (e ∷ es) = e .reply ∷ repliesIn es
 
-abbrev pub repliesLogged : List Ask → List ℕ → Supervisor → List Reply
-repliesLogged asks memory s = repliesIn (logOf (callsOf asks memory s) s)
+abbrev pub repliesLogged : List Ask → Session → List Reply
+repliesLogged asks z = repliesIn (logOf (callsOf asks z) (z .supervisor))
 
 -- ---- what is looked at in a reply: a number for each tick carried out, so that a declined one is missed
 

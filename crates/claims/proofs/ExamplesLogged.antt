@@ -9,7 +9,7 @@ use mathlib.Core.List.{List, [], _∷_}
 use Rattle.supervisor.specs.declared.Supervisor.{Supervisor}
 use Rattle.declines.specs.Answers.{Reply}
 use Rattle.declines.specs.Runs.{Ask, writeRegister, readRegister, writeMemory, readMemory, tick}
-use Rattle.declines.specs.Runs.{Result, askOf, memoryAfter}
+use Rattle.declines.specs.Runs.{Result, askOf, memoryAfter, Session, session, replyTo, after}
 use Rattle.bench.specs.Sessions.{answered, repliesBy, repliesLogged}
 use Rattle.bench.proofs.SessionsLaws.{replies-are-logged}
 
@@ -20,13 +20,12 @@ answered-is-asked (writeMemory p w) memory s = refl
 answered-is-asked (readMemory p) memory s = refl
 answered-is-asked (tick x) memory s = refl
 
-replies-alike : (asks : List Ask) (memory : List ℕ) (s : Supervisor)
-    → repliesBy answered asks memory s ≡ repliesBy askOf asks memory s
-replies-alike [] memory s = refl
-replies-alike (a ∷ rest) memory s =
-    ap (λ (r : Result). r .reply ∷ repliesBy answered rest (memoryAfter a memory s) (r .next)) (answered-is-asked a memory s)
-    ∙ ap (λ (l : List Reply). askOf a memory s .reply ∷ l) (replies-alike rest (memoryAfter a memory s) (askOf a memory s .next))
+replies-alike : (asks : List Ask) (z : Session) → repliesBy answered asks z ≡ repliesBy askOf asks z
+replies-alike [] z = refl
+replies-alike (a ∷ rest) z =
+    ap (λ (r : Result). r .reply ∷ repliesBy answered rest (session (r .next) (memoryAfter a (z .memory) (z .supervisor))))
+    (answered-is-asked a (z .memory) (z .supervisor))
+    ∙ ap (λ (l : List Reply). replyTo a z ∷ l) (replies-alike rest (after a z))
 
-pub answers-are-logged : (asks : List Ask) (memory : List ℕ) (s : Supervisor)
-    → repliesBy answered asks memory s ≡ repliesLogged asks memory s
-answers-are-logged asks memory s = replies-alike asks memory s ∙ replies-are-logged asks memory s
+pub answers-are-logged : (asks : List Ask) (z : Session) → repliesBy answered asks z ≡ repliesLogged asks z
+answers-are-logged asks z = replies-alike asks z ∙ replies-are-logged asks z

@@ -1,11 +1,10 @@
 -- Each claim of specs/Claims.antt, proved in one line by the theorem that it restates.
 -- Assumes nothing.
 use Rattle.branches.specs.Readout.{moduleBranches}
-use Rattle.declines.specs.Runs.{zeroMemory}
+use Rattle.declines.specs.Runs.{freshSession}
 use Rattle.declines.proofs.CallsLaws.{declines-in-order, refusal-leaves, refusal-leaves-memory, spoiled-declines-all}
 use Rattle.account.proofs.Theorem.{every-run-balances, any-two-branches}
 use Rattle.reach.proofs.Never.{call-keeps-unspoiled, never-spoiled}
-use Rattle.bench.specs.Sessions.{fresh}
 use Rattle.bench.proofs.Examples.{bench-examples}
 use Rattle.claims.proofs.ExamplesLogged.{answers-are-logged}
 use Rattle.reader.proofs.ReaderLaws.{lines-end, lines-append}
@@ -61,4 +60,4 @@ pub bench : BenchExamples
 bench = bench-examples
 
 pub examples-are-logged : ExamplesAreLogged
-examples-are-logged asks = answers-are-logged asks zeroMemory fresh
+examples-are-logged asks = answers-are-logged asks freshSession

@@ -25,15 +25,15 @@ use Rattle.branches.specs.Readout.{moduleBranches}
 use Rattle.supervisor.specs.Supervisor.{isSpoiledOf}
 use Rattle.supervisor.specs.declared.Supervisor.{Supervisor}
 use Rattle.declines.specs.Answers.{declined, declineOrZero}
-use Rattle.declines.specs.Runs.{Ask, Call, askOf, memoryAfter, zeroMemory}
+use Rattle.declines.specs.Runs.{Ask, Call, askOf, memoryAfter, Session, freshSession}
 use Rattle.declines.specs.Refusals.{refusalsOf, firstOf, statusBit, Leaves}
 use Rattle.account.specs.Demand3.{Demand3, wordsOf}
 use Rattle.reach.specs.NeverSpoiled.{OfType, KeepsUnspoiled, NeverSpoiled}
 use Rattle.bench.specs.Bench.{examples, allRight}
-use Rattle.bench.specs.Sessions.{fresh, repliesTo, repliesLogged}
+use Rattle.bench.specs.Sessions.{repliesTo, repliesLogged}
 use Rattle.text.specs.Text.{newline}
 use Rattle.reader.specs.Reader.{linesOf}
-use Rattle.script.specs.Script.{Session, lineAnswer, answersFrom}
+use Rattle.script.specs.Script.{lineAnswer, answersFrom}
 use Rattle.script.specs.AnswerLines.{sessionAt, OneLine, newlines}
 use Rattle.reader.specs.declared.Command.{Command}
 
@@ -121,4 +121,4 @@ BenchExamples = allRight examples ≡ true
 
 -- [Lab.8] What an example looks at are the replies that a bystander logs of a run of its calls.
 abbrev pub ExamplesAreLogged : Type 0
-ExamplesAreLogged = (asks : List Ask) → repliesTo asks ≡ repliesLogged asks zeroMemory fresh
+ExamplesAreLogged = (asks : List Ask) → repliesTo asks ≡ repliesLogged asks freshSession

@@ -29,7 +29,8 @@ use Rattle.text.proofs.PageLaws.{hex-length}
 use Rattle.reader.specs.Reader.{hasFieldOf, hasFields, hasForm, numberAt, commandOf, byteOf}
 use Rattle.reader.specs.Reader.{isWriteRegisterOf, isReadRegisterOf, isWriteMemoryOf, isReadMemoryOf, isTickOf}
 use Rattle.printer.specs.Printer.{outcomeText, slotText, sideAt, fieldsOf, spaced, replyText}
-use Rattle.script.specs.Script.{Session, lineAnswer}
+use Rattle.declines.specs.Runs.{Session}
+use Rattle.script.specs.Script.{lineAnswer}
 use Rattle.reader.specs.declared.Command.{Command}
 use Rattle.reader.specs.declared.Command.the-variants.{WriteRegister, ReadRegister, WriteMemory}
 use Rattle.reader.specs.declared.Command.the-variants.{ReadMemory, Tick, Other}

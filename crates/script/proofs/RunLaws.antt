@@ -17,7 +17,8 @@ use lib.Seq.{take-suc-set, drop-drop, length-take-le}
 use borrow.Author.Tests.{lt-ltb, le-leb, lt-leb}
 use Rattle.bits.specs.Bytes.{isSameOf}
 use Rattle.reader.specs.Reader.{linesOf, lineLengthOf, commandOf}
-use Rattle.script.specs.Script.{scriptLimit, capacity, malformed, Session, freshSession, lineAnswer, sessionAfter}
+use Rattle.declines.specs.Runs.{Session, freshSession}
+use Rattle.script.specs.Script.{scriptLimit, capacity, malformed, lineAnswer, sessionAfter}
 use Rattle.script.specs.Script.{answersFrom, isHeaderOf, answersAfterHeader, answersOf}
 use Rattle.printer.specs.Printer.{noText}
 use Rattle.text.specs.Page.{Page, page, write, writeByte}

@@ -31,7 +31,8 @@ use Rattle.declines.specs.declared.Reading.the-variants as reading
 use Rattle.text.specs.Text.{newline, space, hexDigit, hex, isDecimal, isCapital}
 use Rattle.reader.specs.Reader.{commandOf}
 use Rattle.printer.specs.Printer.{outcomeText, slotText, sideAt, fieldsOf, spaced, replyText, noText}
-use Rattle.script.specs.Script.{Session, lineAnswer, sessionAfter, answersFrom}
+use Rattle.declines.specs.Runs.{Session}
+use Rattle.script.specs.Script.{lineAnswer, sessionAfter, answersFrom}
 use Rattle.script.specs.AnswerLines.{sessionAt, letters, isIn, isPlain, Plain, OneLine, newlines}
 use Rattle.reader.specs.declared.Command.{Command}
 use Rattle.reader.specs.declared.Command.the-variants.{WriteRegister, ReadRegister, WriteMemory}

@@ -14,7 +14,8 @@ use Rattle.bits.specs.Notation.{if_then_else_}
 use Rattle.bits.specs.Bytes.{allOf}
 use Rattle.text.specs.Text.{newline, isDecimal, isCapital}
 use Rattle.reader.specs.Reader.{commandOf}
-use Rattle.script.specs.Script.{Session, sessionAfter}
+use Rattle.declines.specs.Runs.{Session}
+use Rattle.script.specs.Script.{sessionAfter}
 
 -- the session after these lines
 abbrev pub sessionAt : List (List ℕ) → Session → Session

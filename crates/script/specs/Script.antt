@@ -1,7 +1,6 @@
 -- A console session: what each line prints and does, and what a whole script prints.
 --     document 01     "Console program"
---     Session         the record and the memory that a console keeps
---     freshSession    the one that a script starts with; header: a script's first line
+--     header          a script's first line
 --     lineAnswer      what a line prints
 --     sessionAfter    the session after it
 --     answersFrom     what lines print, one after the other
@@ -15,12 +14,9 @@ use lib.Dec.{leb}
 use lib.ListN.{length}
 use Rattle.bits.specs.Notation.{if_then_else_}
 use Rattle.bits.specs.Bytes.{isSameOf}
-use Rattle.branches.specs.Readout.{moduleBranches}
 use Rattle.core.specs.Lines.{inputsOf}
-use Rattle.supervisor.specs.Supervisor.{freshOf}
-use Rattle.supervisor.specs.declared.Supervisor.{Supervisor}
-use Rattle.declines.specs.Answers.{Reply}
-use Rattle.declines.specs.Runs.{Ask, writeRegister, readRegister, writeMemory, readMemory, tick, askOf, memoryAfter, zeroMemory}
+use Rattle.declines.specs.Runs.{writeRegister, readRegister, writeMemory, readMemory, tick}
+use Rattle.declines.specs.Runs.{Session, freshSession, replyTo, after}
 use Rattle.reader.specs.Reader.{linesOf, commandOf}
 use Rattle.printer.specs.Printer.{replyText, noText}
 use Rattle.reader.specs.declared.Command.{Command}
@@ -45,30 +41,7 @@ malformed = 6
 abbrev pub header : List ℕ
 header = 115 ∷ 117 ∷ 112 ∷ 101 ∷ 114 ∷ 118 ∷ 105 ∷ 115 ∷ 111 ∷ 114 ∷ 9 ∷ 49 ∷ []
 
--- ---- a session
-
-pub record Session : Type 0 where
-  pub supervisor : Supervisor
-  pub memory : List ℕ
-
-abbrev pub session : Supervisor → List ℕ → Session
-session s memory = record { supervisor = s; memory = memory }
-
--- [Console.1]
-unfoldable pub freshSession : Session
-freshSession = session (freshOf moduleBranches) zeroMemory
-
 -- ---- one line
-
-abbrev replyTo : Ask → Session → Reply
-replyTo ask z = askOf ask (z .memory) (z .supervisor) .reply
-
-abbrev after : Ask → Session → Session
-after ask z =
-    record {
-      supervisor = askOf ask (z .memory) (z .supervisor) .next;
-      memory = memoryAfter ask (z .memory) (z .supervisor);
-    }
 
 -- [Console.5] a register is read in 8 digits, a memory word in 4
 abbrev pub lineAnswer : Command → Session → List ℕ

@@ -6,7 +6,8 @@ ghost use lib.ListN.{take, drop, length};
 ghost use Rattle.bits.specs.Bytes.{isSameOf};
 ghost use Rattle.declines.specs.Runs.{zeroMemory};
 ghost use Rattle.reader.specs.Reader.{linesOf};
-ghost use Rattle.script.specs.Script.{scriptLimit, capacity, freshSession};
+ghost use Rattle.declines.specs.Runs.{freshSession};
+ghost use Rattle.script.specs.Script.{scriptLimit, capacity};
 ghost use Rattle.script.specs.Script.{isHeaderOf, answersFrom, answersOf};
 
 mod session;

@@ -6,7 +6,8 @@ use lib.ListN.{length, take, drop}
 use lib.Seq.{length-take-le}
 use borrow.Author.Tests.{not-true, not-false}
 use Rattle.reader.specs.Reader.{linesOf}
-use Rattle.script.specs.Script.{capacity, freshSession, isHeaderOf, answersFrom}
+use Rattle.declines.specs.Runs.{freshSession}
+use Rattle.script.specs.Script.{capacity, isHeaderOf, answersFrom}
 use Rattle.script.proofs.RunLaws.{no-printed, long-script, bad-first, good-first}
 use borrow.Author.Needs.{needs}
 use Rattle.script.proofs.answers.Statement.{statement}

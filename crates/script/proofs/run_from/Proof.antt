@@ -10,7 +10,8 @@ use lib.Seq.{take-all}
 use borrow.Author.Needs.{needs}
 use Rattle.declines.specs.Calls.{memoryPlaces}
 use Rattle.reader.specs.Reader.{linesOf, firstLineOf}
-use Rattle.script.specs.Script.{scriptLimit, capacity, session, freshSession, lineAnswer, sessionAfter}
+use Rattle.declines.specs.Runs.{session, freshSession}
+use Rattle.script.specs.Script.{scriptLimit, capacity, lineAnswer, sessionAfter}
 use Rattle.script.specs.Script.{answersFrom}
 use Rattle.text.specs.Page.{page, write}
 use Rattle.reader.specs.declared.Command.{Command}
