@@ -5,12 +5,7 @@ use Rattle.core.proofs.Core.is_active.Statement.{statement}
 use Rattle.core.proofs.Core.is_active.Tie as tie
 
 returns : tie.Need-returns
-returns c =
-    rw (
-      c .before .wants-user-sync .ensures,
-      c .before .before .is-idle .ensures,
-      c .before .before .before .is-go .ensures,
-    )
+returns c = cc
 
 pub is-active-spec : {M : Type 1} → statement M
 is-active-spec =

@@ -5,14 +5,7 @@ use Rattle.core.proofs.Core.is_open.Statement.{statement}
 use Rattle.core.proofs.Core.is_open.Tie as tie
 
 returns : tie.Need-returns
-returns c =
-    rw (
-      c .has-front-busy .ensures,
-      c .before .before .wants-user-sync .ensures,
-      c .before .before .before .is-go .ensures,
-      c .before .before .before .before .overrides-inhibit .ensures,
-      c .before .before .before .before .before .has-inhibit .ensures,
-    )
+returns c = cc
 
 pub is-open-spec : {M : Type 1} → statement M
 is-open-spec =

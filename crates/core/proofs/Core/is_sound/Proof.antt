@@ -7,17 +7,7 @@ use Rattle.core.proofs.Core.is_sound.Tie as tie
 
 returns : tie.Need-returns
 unfolding isSoundOf
-returns c =
-    rw (
-      c .is-idle .ensures,
-      c .before .before .is-within .ensures,
-      c .before .before .before .is-well-formed .ensures,
-      c .before .before .before .before .is-valid-assign .ensures,
-      c .before .before .before .before .before .is-valid-control .ensures,
-      c .before .before .before .before .before .before .is-valid-stored-csr .ensures,
-      c .before .before .before .before .before .before .before .has-valid-factors .ensures,
-      c .before .before .before .before .before .before .before .before .has-counters-within .ensures,
-    )
+returns c = cc
 
 pub is-sound-spec : {M : Type 1} → statement M
 is-sound-spec =
