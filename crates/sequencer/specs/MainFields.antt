@@ -13,28 +13,28 @@ use Rattle.sequencer.specs.declared.main_sequencer.MainStep.{MainStep}
 -- ---- the sequencer
 
 abbrev pub withAge : ℕ → MainSequencer → MainSequencer
-withAge v m = record { age = v; state = m .state; clear = m .clear; class = m .class; code = m .code; accept = m .accept; raised = m .raised; late = m .late }
+withAge v m = record { state = m .state; clear = m .clear; class = m .class; code = m .code; age = v; accept = m .accept; raised = m .raised; late = m .late }
 
 abbrev pub withState : State → MainSequencer → MainSequencer
-withState v m = record { age = m .age; state = v; clear = m .clear; class = m .class; code = m .code; accept = m .accept; raised = m .raised; late = m .late }
+withState v m = record { state = v; clear = m .clear; class = m .class; code = m .code; age = m .age; accept = m .accept; raised = m .raised; late = m .late }
 
 abbrev pub withClear : ℕ → MainSequencer → MainSequencer
-withClear v m = record { age = m .age; state = m .state; clear = v; class = m .class; code = m .code; accept = m .accept; raised = m .raised; late = m .late }
+withClear v m = record { state = m .state; clear = v; class = m .class; code = m .code; age = m .age; accept = m .accept; raised = m .raised; late = m .late }
 
 abbrev pub withClass : ℕ → MainSequencer → MainSequencer
-withClass v m = record { age = m .age; state = m .state; clear = m .clear; class = v; code = m .code; accept = m .accept; raised = m .raised; late = m .late }
+withClass v m = record { state = m .state; clear = m .clear; class = v; code = m .code; age = m .age; accept = m .accept; raised = m .raised; late = m .late }
 
 abbrev pub withCode : ℕ → MainSequencer → MainSequencer
-withCode v m = record { age = m .age; state = m .state; clear = m .clear; class = m .class; code = v; accept = m .accept; raised = m .raised; late = m .late }
+withCode v m = record { state = m .state; clear = m .clear; class = m .class; code = v; age = m .age; accept = m .accept; raised = m .raised; late = m .late }
 
 abbrev pub withAccept : ℕ → MainSequencer → MainSequencer
-withAccept v m = record { age = m .age; state = m .state; clear = m .clear; class = m .class; code = m .code; accept = v; raised = m .raised; late = m .late }
+withAccept v m = record { state = m .state; clear = m .clear; class = m .class; code = m .code; age = m .age; accept = v; raised = m .raised; late = m .late }
 
 abbrev pub withRaised : ℕ → MainSequencer → MainSequencer
-withRaised v m = record { age = m .age; state = m .state; clear = m .clear; class = m .class; code = m .code; accept = m .accept; raised = v; late = m .late }
+withRaised v m = record { state = m .state; clear = m .clear; class = m .class; code = m .code; age = m .age; accept = m .accept; raised = v; late = m .late }
 
 abbrev pub withLate : Bool → MainSequencer → MainSequencer
-withLate v m = record { age = m .age; state = m .state; clear = m .clear; class = m .class; code = m .code; accept = m .accept; raised = m .raised; late = v }
+withLate v m = record { state = m .state; clear = m .clear; class = m .class; code = m .code; age = m .age; accept = m .accept; raised = m .raised; late = v }
 
 -- ---- its step
 
