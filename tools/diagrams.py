@@ -153,7 +153,7 @@ def branch_edges(branch):
 def differences(plan, defined):
     """Rows that no definition has, moves without a row, tags that do not exist."""
     rows = [Edge(*row[:3]) for row in plan.table]
-    tags = {line.split("\t")[0] for line in read(TOP / "docs/tags.txt").splitlines()}
+    tags = {line.split("\t")[0] for line in read(TOP / "docs/tags.txt").splitlines() if not line.startswith("#")}
     yield from (f"{plan.title}: twice in the table: {' '.join(row)}" for row in set(rows) if rows.count(row) > 1)
     yield from (f"{plan.title}: not in the definitions: {' '.join(row)}" for row in sorted(set(rows) - defined))
     yield from (f"{plan.title}: not in the table: {' '.join(row)}" for row in sorted(defined - set(rows)))

@@ -1,5 +1,5 @@
-"""Tests of the commands: what each makes of its words, the console's exit status, and what a tag of trace.py speaks of. Run by
-tests.py."""
+"""Tests of the commands: what each makes of its words, the console's exit status, what a tag of trace.py speaks of, and what
+it makes of a request's heading. Run by tests.py."""
 import contextlib
 import io
 import pathlib
@@ -7,11 +7,12 @@ import subprocess
 import sys
 import tempfile
 import unittest
+import unittest.mock
 
 import impostors
 import links
 import trace
-from page import TOP, keep
+from page import TOP, keep, read, write
 
 FIRST = TOP / "examples" / "first.txt"
 SCRIPTS = {"explain": [FIRST], "wave": [FIRST]}
@@ -102,7 +103,7 @@ class Checks(unittest.TestCase):
         self.assertNotIn("bits/specs", impostors.missing("`bits/specs`", listed))
 
     def test_tags(self):
-        sentences = trace.Sentences()
+        sentences = trace.Sentences(read(TOP / "docs" / "tags.txt"))
         self.assertEqual(sentences.cited("[Main.1] [Spoiled.1a]–[Spoiled.1c] [Declines.1]", "x"),
                          ["Main.1", "Spoiled.1a", "Spoiled.1b", "Spoiled.1c", "Declines.1a", "Declines.1b"])
         sentences.see_rows("[Open: M2] DECISIONS B1", "x")
@@ -173,3 +174,69 @@ class Tags(unittest.TestCase):
         self.assertEqual(self.named(*code, mark="//", pattern=trace.RATTLE), [["A", "B"]])
         field = ["struct S {", "    // [Main.6] late", "    pub late: bool,", "}", "", "pub struct T {"]
         self.assertEqual(self.named(*field, mark="//", pattern=trace.RATTLE), [])
+
+
+class Requests(unittest.TestCase):
+    """What trace.py makes of a request that has landed, and of one to come, in a folder of one rule and one request."""
+
+    TAGS = "# Document 01: landed\nMain.1\tit grows older\n# N1 Blind: {}\nBlind.1\nBlind.2\tit is blind\nBlind.5\tP4 goes on\n"
+    FILES = {
+        "docs/DECISIONS.md": "",
+        "crates/a/specs/Age.antt": "-- [Main.1] older\npub aged : ℕ\n",
+        "crates/a/must-fail/younger.edit": "# [Main.1] younger\n",
+    }
+    SPEC = {"crates/b/specs/Blind.antt": "-- [Blind.2] blind\npub blind : ℕ\n"}
+    EDIT = {"crates/b/must-fail/seeing.edit": "# [Blind.2] it sees\n"}
+    P4 = {"crates/bench/specs/Bench.antt": "-- [Blind.5] lost\npub p4 : ℕ\n"}
+
+    def traced(self, listed, *more):
+        """The page and the faults, with files beside those that stand above."""
+        files = {name: text for some in (self.FILES, *more) for name, text in some.items()}
+        with tempfile.TemporaryDirectory() as folder, unittest.mock.patch.object(trace, "TOP", pathlib.Path(folder)):
+            for name, text in files.items():
+                (trace.TOP / name).parent.mkdir(parents=True, exist_ok=True)
+                write(trace.TOP / name, text)
+            sentences = trace.Sentences(listed)
+            page = trace.page(sentences, trace.gather(sentences))
+        return page, list(dict.fromkeys(sentences.faults))
+
+    def refused(self, listed, faults, *more):
+        self.assertEqual(self.traced(listed, *more)[1], faults)
+
+    def test_to_come(self):
+        page, faults = self.traced(self.TAGS.format("to come"), {"docs/NOTES.md": "[Blind.2] is planned"})
+        self.assertEqual(faults, [])
+        self.assertEqual([line for line in page.splitlines() if "Blind" in line],
+                         ["| N1 | Blind.2 | it is blind |", "| N1 | Blind.5 | P4 goes on |"])
+        self.assertLess(page.index("| Main.1 |"), page.index("## To come"))
+        self.assertLess(page.index("| Blind.5 |"), page.index("## Examples"))
+
+    def test_landed(self):
+        page, faults = self.traced(self.TAGS.format("landed"), self.SPEC, self.EDIT, self.P4)
+        self.assertEqual(faults, [])
+        self.assertNotIn("## To come", page)
+        self.assertIn("## N1 Blind\n", page)
+        self.assertIn("| Blind.2 | it is blind | [blind](../crates/b/specs/Blind.antt) |  |  | "
+                      "[seeing](../crates/b/must-fail/seeing.edit) |\n", page)
+        self.assertLess(page.index("## Examples"), page.index("| Blind.5 | P4 goes on | [p4]"))
+
+    def test_cited_before_it_landed(self):
+        early = "[Blind.2] is of a request that has not landed"
+        self.refused(self.TAGS.format("to come"), [f"crates/b/specs/Blind.antt: {early}"], self.SPEC)
+        self.refused(self.TAGS.format("to come"), [f"crates/b/must-fail/seeing.edit: {early}"], self.EDIT)
+        code = {"crates/b/src/lib.rt": "// all of [Blind.2]\nuse a;\n"}
+        self.refused(self.TAGS.format("to come"), [f"crates/b/src/lib.rt: {early}"], code)
+
+    def test_landed_and_not_stated(self):
+        lacks = ["no definition cites [Blind.2]", "no edit breaks [Blind.2], and docs/tags.txt does not say why"]
+        self.refused(self.TAGS.format("landed"), lacks, self.P4)
+        self.refused(self.TAGS.format("landed"), lacks[:1], self.P4, self.EDIT)
+        self.refused(self.TAGS.format("landed"), lacks[1:], self.P4, self.SPEC)
+        self.refused(self.TAGS.format("landed"), ["nothing states [Blind.5]"], self.SPEC, self.EDIT)
+
+    def test_headings(self):
+        bad = "docs/tags.txt: not a heading: "
+        self.refused(self.TAGS.format("soon"), [f"{bad}# N1 Blind: soon"])
+        self.refused(self.TAGS.format("to come") + "# a remark\n", [f"{bad}# a remark"])
+        self.refused("Main.2\n" + self.TAGS.format("to come"), [f"{bad}Main.2"])
+        self.refused(self.TAGS.format("to come") + "State.1\n", ["docs/tags.txt: [State.1] stands under N1 Blind"])
