@@ -32,19 +32,20 @@ use Rattle.sequencer.specs.declared.states.Outcome.the-variants.{Tag}
 use Rattle.sequencer.specs.declared.main_sequencer.MainStep.{MainStep}
 use Rattle.sequencer.proofs.MainLaws.{step-loads-in-order}
 use Rattle.scalers.specs.Scalers.{isSome}
-use Rattle.core.specs.Lines.{hasStrobe}
-use Rattle.core.specs.Effects.{wordAtOf}
+use Rattle.trigger.specs.Lines.{hasStrobe}
+use Rattle.trigger.specs.Latch.{wordAtOf}
+use Rattle.trigger.specs.Effects.{outcomeOf}
+use Rattle.trigger.specs.declared.lines.Inputs.{Inputs}
+use Rattle.trigger.specs.declared.latch.Latch.{Latch}
+use Rattle.trigger.proofs.LatchLaws.{latch-is-one, accepted-is-ready}
 use Rattle.core.specs.Core.{isRunning, pulsedOf, isReadyOf, latchedOf}
-use Rattle.core.specs.Effects.{outcomeOf}
 use Rattle.core.specs.Core.{cycleStepOf, mainStepOf, userStepOf, settledOf, stepOf}
 use Rattle.core.specs.Core.{allowsEightOf, isSoundOf}
-use Rattle.core.specs.declared.lines.Inputs.{Inputs}
 use Rattle.core.specs.declared.Core.{Core}
-use Rattle.core.specs.declared.Latch.{Latch}
 use Rattle.core.proofs.CoreEvents.{EventStep, accepts, tags, goesOn}
-use Rattle.core.proofs.CoreParts.{idle-is-named, latch-is-one, accepted-is-ready, ready-is-idle}
-use Rattle.core.proofs.CoreParts.{ready-wants-no-sync, accepted-is-undecided, idle-cycle-is-quiet}
-use Rattle.core.proofs.CoreParts.{cycle-decides-event, main-loads-six-bits, tag-is-wanted, tag-is-at-idle}
+use Rattle.core.proofs.CoreParts.{idle-is-named, ready-is-idle, ready-wants-no-sync, accepted-is-undecided}
+use Rattle.core.proofs.CoreParts.{idle-cycle-is-quiet, cycle-decides-event, main-loads-six-bits}
+use Rattle.core.proofs.CoreParts.{tag-is-wanted, tag-is-at-idle}
 use Rattle.core.proofs.CoreParts.{isLoad, tag-loads-below-eight, event-loads-below-eight}
 
 -- ---- the whole step: which of the three ticks it is

@@ -1,7 +1,6 @@
--- Laws of the parts of a tick of the core: the latch, the ready rule, main, the user sync. Each is over its part alone;
--- CoreLaws puts them together.
+-- Laws of the parts of a tick of the core: the ready rule, main, the user sync. Each is over its part alone; CoreLaws puts
+-- them together.
 --     idle-is-named                            the test of Idle is the state
---     latch-is-one, accepted-is-ready          what becomes of a passed pulse, and when one is accepted
 --     ready-is-idle, ready-wants-no-sync       what the ready rule gives
 --     accepted-is-undecided, idle-cycle-is-quiet, cycle-decides-event   main: the accept, Idle, a cycle
 --     main-has-no-tag, main-loads-below-eight, main-at-idle-loads-nothing, main-loads-six-bits
@@ -17,10 +16,9 @@ use mathlib.Core.List.{_++_}
 use native.Mathlib.Omega.{arith}
 use lib.Dec.{eqb, leb, lit<}
 use borrow.Author.Tests.{not-true}
-use Rattle.bits.specs.Bits.{bitAt, oneIfOf}
+use Rattle.bits.specs.Bits.{oneIfOf}
 use Rattle.bits.specs.Bytes.{allOf}
 use Rattle.bits.proofs.TestLaws.{and-left, and-right, implied, all-true-at, all-true-right, by-cond}
-use Rattle.bits.proofs.BitsLaws.{zero-at}
 use Rattle.registers.specs.Csr as csr
 use Rattle.sync.proofs.SyncLaws.{user-tag-exactly}
 use Rattle.sequencer.specs.MemoryWord.{classInOf}
@@ -38,13 +36,12 @@ use Rattle.sequencer.proofs.MainLaws.{idle-stays, idle-does-not-age, aged-keeps
 use Rattle.sequencer.proofs.MainLaws.{step-loads-in-order}
 use Rattle.sequencer.proofs.MainLaws as sequencer
 use Rattle.scalers.specs.Scalers.{isSome}
-use Rattle.core.specs.Effects.{latchOf}
+use Rattle.trigger.specs.declared.lines.Lines.{Lines}
+use Rattle.trigger.specs.declared.latch.Latch.{Latch}
 use Rattle.core.specs.Core.{isReadyOf, isOpenOf}
 use Rattle.core.specs.Core.{testsOf, cycleStepOf, mainStepOf, userStepOf}
 use Rattle.core.specs.Core.{allowsEightOf, bankClauses, registerClauses, sequencerClauses, isSoundOf}
-use Rattle.core.specs.declared.lines.Lines.{Lines}
 use Rattle.core.specs.declared.Core.{Core}
-use Rattle.core.specs.declared.Latch.{Latch}
 
 -- ---- the state Idle
 
@@ -57,25 +54,6 @@ idle-is-named Front h = absurd (false≢true h)
 idle-is-named Space h = absurd (false≢true h)
 idle-is-named SyncHold h = absurd (false≢true h)
 idle-is-named Clear h = absurd (false≢true h)
-
--- ---- the latch: what becomes of a passed pulse
-
--- [Ready.2] [Ready.4] [Ready.5] [Account.11]
-pub latch-is-one : (ready ok : Bool) (passed i : ℕ)
-    → oneIfOf (bitAt passed i)
-    ≡ oneIfOf (bitAt (latchOf ready ok passed .lost) i)
-    + oneIfOf (bitAt (latchOf ready ok passed .rejected) i)
-    + oneIfOf (bitAt (latchOf ready ok passed .accepted) i)
-latch-is-one true true passed i = rw (zero-at i) (omega arith)
-latch-is-one true false passed i = rw (zero-at i) (omega arith)
-latch-is-one false ok passed i = rw (zero-at i) (omega arith)
-
--- [Ready.5] a pulse is accepted only where the unit is ready and the word is OK
-pub accepted-is-ready : (ready ok : Bool) (passed : ℕ) → isSome (latchOf ready ok passed .accepted) ≡ true
-    → (ready && ok) ≡ true
-accepted-is-ready true true passed h = refl
-accepted-is-ready true false passed h = h
-accepted-is-ready false ok passed h = h
 
 -- ---- the ready rule
 

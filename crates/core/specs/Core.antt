@@ -1,10 +1,9 @@
 -- The core: all of the record but the branches, which it sees through two facts. A tick of it: pulses, ready, main and user
--- sync; what their moves change besides is in Effects.
+-- sync; the latch, and what their moves change besides, are in trigger.
 --     document 01    "The tick"; "When a call is declined", Spoiled; Active
 --     isReadyOf      the ready rule
 --     mainStepOf, userStepOf   what main and the user sync do
---     settledOf      the core after all of them, with what the tick reports
---     stepOf         a tick of the core
+--     settledOf, stepOf   the core after all of them, with what the tick reports; a tick of the core
 --     freshOf, resetOf   the core at power-up, and after RESET
 --     linesOutOf     the lines out
 --     isActiveOf, allowsEightOf, isSoundOf   its part of the active rule and of the spoiled rule, clause by clause in three groups
@@ -33,12 +32,13 @@ use Rattle.sequencer.specs.MainSequencer as main
 use Rattle.sequencer.specs.declared.main_sequencer.Tests.{Tests}
 use Rattle.sequencer.specs.declared.main_sequencer.MainStep.{MainStep}
 use Rattle.scalers.specs.Scalers as scalers
-use Rattle.core.specs.Lines.{hasStrobe, hasPass2, hasFail2, hasPass3, hasFail3, hasFrontBusy, hasInhibit}
-use Rattle.core.specs.Effects.{wordAtOf, latchOf, csrAfterOf, syncAfterOf, outcomeOf, signalsOf, masksOf}
-use Rattle.core.specs.declared.lines.Lines.{Lines}
-use Rattle.core.specs.declared.lines.Inputs.{Inputs}
+use Rattle.trigger.specs.Lines.{hasStrobe, hasPass2, hasFail2, hasPass3, hasFail3, hasFrontBusy, hasInhibit}
+use Rattle.trigger.specs.Latch.{wordAtOf, latchOf, masksOf}
+use Rattle.trigger.specs.Effects.{csrAfterOf, syncAfterOf, outcomeOf, signalsOf}
+use Rattle.trigger.specs.declared.lines.Lines.{Lines}
+use Rattle.trigger.specs.declared.lines.Inputs.{Inputs}
+use Rattle.trigger.specs.declared.latch.Latch.{Latch}
 use Rattle.core.specs.declared.Core.{Core}
-use Rattle.core.specs.declared.Latch.{Latch}
 use Rattle.core.specs.declared.CoreStep.{CoreStep}
 
 -- ---- fresh, and RESET

@@ -1,5 +1,3 @@
 -- The definitions, in the order of reading. Nothing is decided here. Assumes nothing.
-pub mod Lines
 pub mod CoreFields
-pub mod Effects
 pub mod Core

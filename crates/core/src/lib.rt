@@ -19,19 +19,17 @@ use sync::counter::SyncCounter;
 use sync::user::UserStep;
 use sync::user::UserSync;
 use timers::Timers;
-
-mod effects;
-pub mod lines;
-
-use effects::csr_after;
-use effects::latch_of;
-use effects::masks_of;
-use effects::outcome_of;
-use effects::signals_of;
-use effects::sync_after;
-use effects::word_at;
-use lines::Inputs;
-use lines::Lines;
+use trigger::effects::csr_after;
+use trigger::effects::outcome_of;
+use trigger::effects::signals_of;
+use trigger::effects::sync_after;
+use trigger::latch::Latch;
+use trigger::latch::Masks;
+use trigger::latch::latch_of;
+use trigger::latch::masks_of;
+use trigger::latch::word_at;
+use trigger::lines::Inputs;
+use trigger::lines::Lines;
 
 pub struct Core {
     // registers 2–9 and their counters
@@ -46,22 +44,6 @@ pub struct Core {
     // register 11 and the sync count
     pub sync: SyncCounter,
     pub user: UserSync,
-}
-
-// What became of the pulses that passed the prescalers.
-pub struct Latch {
-    pub lost: u32,
-    pub rejected: u32,
-    pub accepted: u32,
-}
-
-// The five masks of a tick's answer; bit i is input i + 1.
-pub struct Masks {
-    pub stopped: u32,
-    pub scaled: u32,
-    pub lost: u32,
-    pub rejected: u32,
-    pub accepted: u32,
 }
 
 pub struct CoreStep {

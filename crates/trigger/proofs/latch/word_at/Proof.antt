@@ -1,10 +1,10 @@
--- `core::effects::word_at` meets its contract: within the memory it is the word there, past its end 0.
+-- `trigger::latch::word_at` meets its contract: within the memory it is the word there, past its end 0.
 -- Written by tools/prove.py; the answers to `returns` were written by hand. Assumes nothing.
 use mathlib.Core.Path.{sym}
 use lib.ListN.{List·getD-eq-default}
 use borrow.Author.Needs.{needs}
-use Rattle.core.proofs.effects.word_at.Statement.{statement}
-use Rattle.core.proofs.effects.word_at.Tie as tie
+use Rattle.trigger.proofs.latch.word_at.Statement.{statement}
+use Rattle.trigger.proofs.latch.word_at.Tie as tie
 
 returns-2 : tie.Need-returns-2
 returns-2 c =

@@ -1,8 +1,8 @@
--- `core::effects::latch_of` meets its contract: one return for each of ready and OK, ready and not OK, not ready.
+-- `trigger::latch::latch_of` meets its contract: one return for each of ready and OK, ready and not OK, not ready.
 -- First written by tools/prove.py. Assumes nothing.
 use borrow.Author.Needs.{needs}
-use Rattle.core.proofs.effects.latch_of.Statement.{statement}
-use Rattle.core.proofs.effects.latch_of.Tie as tie
+use Rattle.trigger.proofs.latch.latch_of.Statement.{statement}
+use Rattle.trigger.proofs.latch.latch_of.Tie as tie
 
 returns : tie.Need-returns
 returns c = rw (← c .before .is-ok-word .ensures, c .if2 .taken, c .before .before .if1 .taken)

@@ -7,8 +7,8 @@
 use Prim.Native.Nat.{ℕ}
 use mathlib.Core.Bool.{Bool}
 use Rattle.bits.specs.Bits.{bitAt}
-use Rattle.core.specs.declared.lines.Lines.{Lines}
-use Rattle.core.specs.declared.lines.Inputs.{Inputs}
+use Rattle.trigger.specs.declared.lines.Lines.{Lines}
+use Rattle.trigger.specs.declared.lines.Inputs.{Inputs}
 
 -- [Tick.1]
 abbrev pub inputsOf : (triggers lines acks : ℕ) → Inputs

@@ -1,20 +1,16 @@
--- What the moves of a tick change besides themselves: the latch of the passed pulses, the CSR's bits, the sync count, and
--- what the tick reports and the scalers count.
+-- What the moves of a tick change besides themselves: the CSR's bits, the sync count, and what the tick reports and the
+-- scalers count.
 --     document 01    "The tick": Ready, Main and User sync; "The answer"
---     wordAtOf, latchOf   the memory's word for a pattern, and what becomes of the passed pulses
 --     csrAfterOf, syncAfterOf   the CSR, with the status bits of statusOf, and the sync count after the tick
---     outcomeOf, masksOf, signalsOf   what is reported, and what the scalers count
--- Own rules of 01 used here: none. Decisions: T2, T3, T6. Left out: nothing.
+--     outcomeOf, signalsOf      what is reported, and what the scalers count
+-- Own rules of 01 used here: none. Decisions: T3, T6. Left out: nothing.
 -- Assumes nothing.
 use Prim.Native.Nat.{ℕ, _+_, _*_}
-use mathlib.Core.Bool.{Bool, not, _&&_, _||_}
-use mathlib.Core.List.{List}
-use lib.ListN.{getD}
+use mathlib.Core.Bool.{Bool, _||_}
 use Rattle.bits.specs.Notation.{if_then_else_, _▷_}
 use Rattle.bits.specs.Bits.{oneIfOf}
 use Rattle.registers.specs.Csr as csr
 use Rattle.registers.specs.declared.csr.Csr.{Csr}
-use Rattle.prescaler.specs.declared.Prescaled.{Prescaled}
 use Rattle.sync.specs.SyncCounter as counter
 use Rattle.sync.specs.UserSync as user
 use Rattle.sync.specs.declared.counter.SyncCounter.{SyncCounter}
@@ -24,28 +20,9 @@ use Rattle.sequencer.specs.declared.states.Outcome.{Outcome}
 use Rattle.sequencer.specs.declared.states.Outcome.the-variants.{Tag}
 use Rattle.sequencer.specs.declared.main_sequencer.MainStep.{MainStep}
 use Rattle.scalers.specs.declared.Signals.{Signals}
-use Rattle.core.specs.Lines.{hasInhibit}
-use Rattle.core.specs.declared.lines.Lines.{Lines}
-use Rattle.core.specs.declared.Latch.{Latch}
-use Rattle.core.specs.declared.Masks.{Masks}
-
--- ---- what becomes of the passed pulses
-
--- [Memory.1] the word at the place of the pattern
-abbrev pub wordAtOf : List ℕ → (pattern : ℕ) → ℕ
-wordAtOf memory pattern = getD memory pattern 0
-
--- [Ready.2] [Ready.3] [Ready.4] [Ready.5] lost if not ready; else all rejected or all accepted; with none passed nothing
--- is latched: every mask is 0
-abbrev pub latchOf : (ready ok : Bool) (passed : ℕ) → Latch
-latchOf ready ok passed =
-    record {
-      lost = if ready then 0 else passed;
-      rejected = if ready && not ok then passed else 0;
-      accepted = if ready && ok then passed else 0;
-    }
-
--- ---- what follows from the moves
+use Rattle.trigger.specs.Lines.{hasInhibit}
+use Rattle.trigger.specs.declared.lines.Lines.{Lines}
+use Rattle.trigger.specs.declared.latch.Latch.{Latch}
 
 -- [Main.11] [Usersync.1] a word with the sync bit is loaded
 abbrev pub loadsSync : MainStep → UserStep → Bool
@@ -84,14 +61,4 @@ signalsOf passed latch m u =
       failed3 = m .failed3;
       late = m .late;
       sync = loadsSync m u;
-    }
-
-abbrev pub masksOf : Prescaled → Latch → Masks
-masksOf p latch =
-    record {
-      stopped = p .stopped;
-      scaled = p .scaled;
-      lost = latch .lost;
-      rejected = latch .rejected;
-      accepted = latch .accepted;
     }

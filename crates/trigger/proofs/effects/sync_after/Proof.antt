@@ -1,9 +1,9 @@
--- `core::effects::sync_after` meets its contract: one return for each choice.
+-- `trigger::effects::sync_after` meets its contract: one return for each choice.
 -- First written by tools/prove.py. Assumes nothing.
-use Rattle.core.specs.Effects.{syncAfterOf}
+use Rattle.trigger.specs.Effects.{syncAfterOf}
 use borrow.Author.Needs.{needs}
-use Rattle.core.proofs.effects.sync_after.Statement.{statement}
-use Rattle.core.proofs.effects.sync_after.Tie as tie
+use Rattle.trigger.proofs.effects.sync_after.Statement.{statement}
+use Rattle.trigger.proofs.effects.sync_after.Tie as tie
 
 returns : tie.Need-returns
 unfolding syncAfterOf

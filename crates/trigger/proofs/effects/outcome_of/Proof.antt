@@ -1,8 +1,8 @@
--- `core::effects::outcome_of` meets its contract: one return for each choice.
+-- `trigger::effects::outcome_of` meets its contract: one return for each choice.
 -- First written by tools/prove.py. Assumes nothing.
 use borrow.Author.Needs.{needs}
-use Rattle.core.proofs.effects.outcome_of.Statement.{statement}
-use Rattle.core.proofs.effects.outcome_of.Tie as tie
+use Rattle.trigger.proofs.effects.outcome_of.Statement.{statement}
+use Rattle.trigger.proofs.effects.outcome_of.Tie as tie
 
 returns : tie.Need-returns
 returns c = rw (c .if1 .taken)

@@ -1,7 +1,7 @@
 // What a tick brings (document 01, "The tick", Input). The definitions are in specs/Lines.antt.
 ghost use mathlib.Core.Path.{_≡_};
-ghost use Rattle.core.specs.Lines.{inputsOf};
-ghost use Rattle.core.specs.Lines.{hasStrobe, hasPass2, hasFail2, hasPass3, hasFail3, hasFrontBusy, hasInhibit};
+ghost use Rattle.trigger.specs.Lines.{inputsOf};
+ghost use Rattle.trigger.specs.Lines.{hasStrobe, hasPass2, hasFail2, hasPass3, hasFail3, hasFrontBusy, hasInhibit};
 
 // The seven lines, a bit each.
 pub struct Lines {

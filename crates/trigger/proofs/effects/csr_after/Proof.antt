@@ -1,9 +1,9 @@
--- `core::effects::csr_after` meets its contract: three changes in a row, each as its call ensures.
+-- `trigger::effects::csr_after` meets its contract: three changes in a row, each as its call ensures.
 -- First written by tools/prove.py. Assumes nothing.
-use Rattle.core.specs.Effects.{csrAfterOf}
+use Rattle.trigger.specs.Effects.{csrAfterOf}
 use borrow.Author.Needs.{needs}
-use Rattle.core.proofs.effects.csr_after.Statement.{statement}
-use Rattle.core.proofs.effects.csr_after.Tie as tie
+use Rattle.trigger.proofs.effects.csr_after.Statement.{statement}
+use Rattle.trigger.proofs.effects.csr_after.Tie as tie
 
 returns : tie.Need-returns
 unfolding csrAfterOf

@@ -1,8 +1,8 @@
--- `core::effects::signals_of` meets its contract: the literal is the definition, field by field.
+-- `trigger::effects::signals_of` meets its contract: the literal is the definition, field by field.
 -- First written by tools/prove.py. Assumes nothing.
 use borrow.Author.Needs.{needs}
-use Rattle.core.proofs.effects.signals_of.Statement.{statement}
-use Rattle.core.proofs.effects.signals_of.Tie as tie
+use Rattle.trigger.proofs.effects.signals_of.Statement.{statement}
+use Rattle.trigger.proofs.effects.signals_of.Tie as tie
 
 returns : tie.Need-returns
 returns c = rw (c .before .before .is-event .ensures)
