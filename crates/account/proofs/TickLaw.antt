@@ -21,8 +21,8 @@ use Rattle.sequencer.specs.States.{isUndecided, isEvent, isTag, outcomeWords}
 use Rattle.sequencer.specs.declared.states.Outcome.{Outcome}
 use Rattle.sequencer.specs.declared.states.Outcome.the-variants.{Nothing, Cleared, Event, Tag}
 use Rattle.scalers.specs.Scalers.{isSome}
+use Rattle.trigger.specs.declared.lines.Inputs.{Inputs}
 use Rattle.core.specs.Core as core
-use Rattle.core.specs.declared.lines.Inputs.{Inputs}
 use Rattle.core.specs.declared.CoreStep.{CoreStep}
 use Rattle.core.proofs.CoreEvents.{EventStep, event-step-balances, undecided-follows}
 use Rattle.core.proofs.CoreLaws as laws

@@ -29,8 +29,8 @@ use Rattle.branches.specs.Readout.{noSide}
 use Rattle.sequencer.specs.States.{outcomeWords, isCleared, isEvent, isTag}
 use Rattle.sequencer.specs.declared.states.Outcome.{Outcome}
 use Rattle.scalers.specs.Scalers.{isSome}
-use Rattle.core.specs.Lines.{hasStrobe}
-use Rattle.core.specs.declared.lines.Inputs.{Inputs}
+use Rattle.trigger.specs.Lines.{hasStrobe}
+use Rattle.trigger.specs.declared.lines.Inputs.{Inputs}
 use Rattle.supervisor.specs.declared.Answer.{Answer}
 use Rattle.declines.specs.Answers.{Reply, declined, done, value, ticked}
 use Rattle.declines.specs.Runs.{Ask, writeRegister, readRegister, writeMemory, readMemory, tick, Entry}

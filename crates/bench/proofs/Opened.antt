@@ -16,7 +16,7 @@ use Rattle.sequencer.specs.MainSequencer as main
 use Rattle.scalers.specs.Scalers as scalers
 use Rattle.branch.specs.Branch as branch
 use Rattle.branches.specs.Readout as readout
-use Rattle.core.specs.Effects as effects
+use Rattle.trigger.specs.Effects as effects
 use Rattle.core.specs.Core as core
 use Rattle.supervisor.specs.Supervisor as supervisor
 use Rattle.access.specs.Access as access

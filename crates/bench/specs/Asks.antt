@@ -5,7 +5,7 @@
 use Prim.Native.Nat.{ℕ, zero, suc, _+_, _-_, _^_}
 use mathlib.Core.List.{List, [], _∷_, _++_}
 use lib.ListN.{replicate}
-use Rattle.core.specs.Lines.{inputsOf}
+use Rattle.trigger.specs.Lines.{inputsOf}
 use Rattle.declines.specs.Runs.{Ask, writeRegister, readRegister, writeMemory, tick}
 
 -- ---- the registers, as [Registers.1] numbers them

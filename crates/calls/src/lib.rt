@@ -8,8 +8,6 @@ use access::stored;
 use access::written;
 use branch::Slot;
 use branches::Side;
-use core::Masks;
-use core::lines::Inputs;
 use declines::Decline;
 use declines::ReadDone;
 use declines::Reading;
@@ -21,6 +19,8 @@ use registers::register::Register;
 use sequencer::states::Outcome;
 use supervisor::Answer;
 use supervisor::Supervisor;
+use trigger::latch::Masks;
+use trigger::lines::Inputs;
 
 // [Memory.1]
 pub const MEMORY_PLACES: usize = 4096;

@@ -6,8 +6,6 @@ use branch::Slot;
 use branches::Readout;
 use branches::Side;
 use core::Core;
-use core::Masks;
-use core::lines::Inputs;
 use declines::Verdict;
 use numbers::record_in::number_at;
 use numbers::record_out::wide;
@@ -24,6 +22,8 @@ use sync::user::UserSync;
 use timers::Count20;
 use timers::Count40;
 use timers::Timers;
+use trigger::latch::Masks;
+use trigger::lines::Inputs;
 
 // ---- the record to start with: its registers from the table, every counter loaded, all else as at power-up. It is built
 // here and not by `numbers`, so that the compiler keeps the loop's record apart; that saves a seventh of a tick.

@@ -10,7 +10,7 @@ use mathlib.Core.List.{List, [], _∷_, _++_}
 use Rattle.bits.specs.Notation.{if_then_else_}
 use Rattle.branch.specs.declared.Slot.{Slot}
 use Rattle.branches.specs.declared.Side.{Side}
-use Rattle.core.specs.declared.Masks.{Masks}
+use Rattle.trigger.specs.declared.latch.Masks.{Masks}
 use Rattle.text.specs.Text.{space, hex}
 use Rattle.printer.specs.Printer.{slotText, sideAt}
 

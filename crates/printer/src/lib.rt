@@ -10,13 +10,13 @@ ghost use Rattle.printer.specs.TickParts.{maskPart, masksPart, slotPart,
 ghost use Rattle.text.specs.Page.{page, write};
 use branch::Slot;
 use branches::Side;
-use core::Masks;
 use declines::Reading;
 use declines::Verdict;
 use sequencer::states::Outcome;
 use supervisor::Answer;
 use text::put;
 use text::put_hex;
+use trigger::latch::Masks;
 
 // ---- short answers
 

@@ -17,11 +17,11 @@ use Rattle.prescaler.proofs.PrescalerLoadLaws as loadLaws
 use Rattle.sync.specs.declared.user.UserStep.{UserStep}
 use Rattle.sequencer.specs.declared.main_sequencer.MainStep.{MainStep}
 use Rattle.scalers.specs.Scalers as scalers
-use Rattle.core.specs.Lines.{hasStrobe}
-use Rattle.core.specs.Effects.{csrAfterOf}
+use Rattle.trigger.specs.Lines.{hasStrobe}
+use Rattle.trigger.specs.Effects.{csrAfterOf}
+use Rattle.trigger.specs.declared.lines.Inputs.{Inputs}
+use Rattle.trigger.specs.declared.lines.Lines.{Lines}
 use Rattle.core.specs.Core.{isRunning, pulsedOf, settledOf, stepOf}
-use Rattle.core.specs.declared.lines.Inputs.{Inputs}
-use Rattle.core.specs.declared.lines.Lines.{Lines}
 use Rattle.core.specs.declared.Core.{Core}
 use Rattle.reach.proofs.Sound.{SoundBank, SoundRegisters}
 

@@ -27,13 +27,15 @@ use Rattle.sequencer.proofs.MainWellFormed as sequencer
 use Rattle.sequencer.specs.declared.main_sequencer.MainSequencer.{MainSequencer}
 use Rattle.sequencer.specs.declared.main_sequencer.MainStep.{MainStep}
 use Rattle.scalers.specs.Scalers as scalers
-use Rattle.core.specs.Effects.{wordAtOf, syncAfterOf}
+use Rattle.trigger.specs.Latch.{wordAtOf}
+use Rattle.trigger.specs.Effects.{syncAfterOf}
+use Rattle.trigger.specs.declared.lines.Inputs.{Inputs}
+use Rattle.trigger.specs.declared.latch.Latch.{Latch}
+use Rattle.trigger.proofs.LatchLaws.{accepted-is-ready}
 use Rattle.core.specs.Core.{pulsedOf, isReadyOf, latchedOf, sequencerClauses}
 use Rattle.core.specs.Core.{cycleStepOf, mainStepOf, userStepOf, settledOf, stepOf}
-use Rattle.core.proofs.CoreParts.{accepted-is-ready, idle-cycle-is-quiet}
-use Rattle.core.specs.declared.lines.Inputs.{Inputs}
+use Rattle.core.proofs.CoreParts.{idle-cycle-is-quiet}
 use Rattle.core.specs.declared.Core.{Core}
-use Rattle.core.specs.declared.Latch.{Latch}
 
 -- ---- the facts
 

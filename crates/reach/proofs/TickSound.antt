@@ -35,13 +35,15 @@ use Rattle.sync.specs.SyncCounter as counter
 use Rattle.sync.specs.declared.counter.SyncCounter.{SyncCounter}
 use Rattle.sync.specs.declared.user.UserStep.{UserStep}
 use Rattle.scalers.specs.Scalers as scalers
-use Rattle.core.specs.Effects as effects
+use Rattle.trigger.specs.Latch.{wordAtOf}
+use Rattle.trigger.specs.Effects as effects
+use Rattle.trigger.specs.declared.lines.Inputs.{Inputs}
+use Rattle.trigger.specs.declared.latch.Latch.{Latch}
+use Rattle.trigger.proofs.LatchLaws.{accepted-is-ready}
 use Rattle.core.specs.Core as core
-use Rattle.core.proofs.CoreParts.{isLoad, accepted-is-ready, main-has-no-tag}
+use Rattle.core.proofs.CoreParts.{isLoad, main-has-no-tag}
 use Rattle.core.proofs.CoreLaws as coreLaws
-use Rattle.core.specs.declared.lines.Inputs.{Inputs}
 use Rattle.core.specs.declared.Core.{Core}
-use Rattle.core.specs.declared.Latch.{Latch}
 use Rattle.core.specs.declared.CoreStep.{CoreStep}
 use Rattle.supervisor.specs.Supervisor.{coreStepOf, readoutStepOf, joinedOf, tickedOf}
 use Rattle.supervisor.specs.declared.Supervisor.{Supervisor}
@@ -83,7 +85,7 @@ module _ (room empty : Bool) (x : Inputs) (memory : List ℕ) (c : Core) where
   passed = core.pulsedOf x c .passed
 
   abbrev word : ℕ
-  word = effects.wordAtOf memory passed
+  word = wordAtOf memory passed
 
   abbrev latch : Latch
   latch = core.latchedOf x memory c

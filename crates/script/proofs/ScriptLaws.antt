@@ -19,7 +19,7 @@ use Rattle.branch.specs.declared.Slot.the-variants as slot
 use Rattle.sequencer.specs.declared.states.Outcome.{Outcome}
 use Rattle.sequencer.specs.declared.states.Outcome.the-variants.{Nothing, Cleared, Event, Tag}
 use Rattle.supervisor.specs.declared.Answer.{Answer}
-use Rattle.core.specs.Lines.{inputsOf}
+use Rattle.trigger.specs.Lines.{inputsOf}
 use Rattle.declines.specs.Answers.{declineNumber, verdictReply, readingReply, tickReply}
 use Rattle.declines.specs.Calls.{writeRegisterOf, readRegisterOf, writeMemoryOf, readMemoryOf, tickOf}
 use Rattle.declines.specs.declared.Decline.{Decline}

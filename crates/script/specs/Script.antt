@@ -14,7 +14,7 @@ use lib.Dec.{leb}
 use lib.ListN.{length}
 use Rattle.bits.specs.Notation.{if_then_else_}
 use Rattle.bits.specs.Bytes.{isSameOf}
-use Rattle.core.specs.Lines.{inputsOf}
+use Rattle.trigger.specs.Lines.{inputsOf}
 use Rattle.declines.specs.Runs.{writeRegister, readRegister, writeMemory, readMemory, tick}
 use Rattle.declines.specs.Runs.{Session, freshSession, replyTo, after}
 use Rattle.reader.specs.Reader.{linesOf, commandOf}

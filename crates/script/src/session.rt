@@ -12,7 +12,6 @@ use calls::read_register;
 use calls::tick;
 use calls::write_memory;
 use calls::write_register;
-use core::lines::Inputs;
 use declines::ReadDone;
 use declines::TickDone;
 use declines::WriteDone;
@@ -22,6 +21,7 @@ use printer::put_tick;
 use printer::put_verdict;
 use reader::Command;
 use supervisor::Supervisor;
+use trigger::lines::Inputs;
 
 // [Console.5] [Console.6] the number of a line of other form, and of a script that is not run
 pub const MALFORMED: u8 = 6;

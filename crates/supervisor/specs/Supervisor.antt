@@ -20,8 +20,8 @@ use Rattle.branches.specs.declared.ReadoutStep.{ReadoutStep}
 use Rattle.sequencer.specs.declared.states.Outcome.{Outcome}
 use Rattle.sequencer.specs.declared.states.Outcome.the-variants.{Cleared, Event, Tag}
 use Rattle.sequencer.specs.declared.states.Outcome.the-variants as outcome
+use Rattle.trigger.specs.declared.lines.Inputs.{Inputs}
 use Rattle.core.specs.Core as core
-use Rattle.core.specs.declared.lines.Inputs.{Inputs}
 use Rattle.core.specs.declared.Core.{Core}
 use Rattle.core.specs.declared.CoreStep.{CoreStep}
 use Rattle.supervisor.specs.declared.Supervisor.{Supervisor}

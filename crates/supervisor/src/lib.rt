@@ -11,9 +11,9 @@ use branches::ReadoutStep;
 use branches::Side;
 use core::Core;
 use core::CoreStep;
-use core::Masks;
-use core::lines::Inputs;
 use sequencer::states::Outcome;
+use trigger::latch::Masks;
+use trigger::lines::Inputs;
 
 pub struct Supervisor {
     // the branches and ROC enable
