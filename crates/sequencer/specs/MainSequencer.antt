@@ -6,7 +6,7 @@
 --     stepBy         what each move changes and reports; stepOf: the whole step
 --     idleOf         the sequencer at Idle, where every move to Idle and RESET lead
 -- Own rules of 01 used here: fail beats pass; a level fail is reported where a wait acts on it. Decisions: M1–M7, A5, F4.
--- Left out: the word's way to the branches, in branches; the CSR bits that a step sets and clears, in core.
+-- Left out: the word's way to the branches, in branches; the CSR bits that a step sets and clears, in trigger.
 -- Assumes nothing.
 use Prim.Native.Nat.{ℕ, _+_, _-_, _*_, _%_, _^_, _≤_}
 use mathlib.Core.Path.{_≡_}

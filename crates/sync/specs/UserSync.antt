@@ -3,7 +3,7 @@
 --     moveOf         the sentence that acts
 --     stepOf         the next user sync, with what it did
 -- Own rules of 01 used here: none. Decisions: U1.
--- Left out: the CSR bits that it sets and clears, in core.
+-- Left out: the CSR bits that it sets and clears, in trigger.
 -- Assumes nothing.
 use Prim.Native.Nat.{ℕ}
 use mathlib.Core.Bool.{Bool, true, false, _&&_}
