@@ -7,7 +7,7 @@ use declines::Reading;
 use declines::TickDone;
 use declines::Verdict;
 use declines::WriteDone;
-use numbers::record_out::wide;
+use numbers::wide;
 use sequencer::states::Outcome;
 use supervisor::Supervisor;
 

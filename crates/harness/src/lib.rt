@@ -1,9 +1,9 @@
 // The calls on plain numbers, for reference/compare to link: a record and a list of calls go in as numbers, and the
 // answers and the next record come out. No contract is made here; the functions are proved safe and ending.
-use numbers::record_in::number_at;
-use numbers::record_in::record_in;
-use numbers::record_out::put_eight;
-use numbers::record_out::put_record;
+use numbers::number_at;
+use numbers::put_eight;
+use numbers::put_record;
+use numbers::record_in;
 use supervisor::Supervisor;
 use trigger::lines::Inputs;
 

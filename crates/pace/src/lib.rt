@@ -7,8 +7,8 @@ use branches::Readout;
 use branches::Side;
 use core::Core;
 use declines::Verdict;
-use numbers::record_in::number_at;
-use numbers::record_out::wide;
+use numbers::number_at;
+use numbers::wide;
 use prescaler::Prescalers;
 use registers::control::Control;
 use registers::csr::Csr;
@@ -92,6 +92,8 @@ fn core_in(table: &[u64]) -> Core {
         timers: timers_in(table),
         sync,
         user: UserSync::fresh(),
+        // none today: a field that the core gets later. Main and user taken from here cost a tick 7 instructions
+        ..Core::fresh()
     }
 }
 
