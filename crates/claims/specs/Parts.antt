@@ -79,7 +79,7 @@ CsrBitAfterWrite = (v : ℕ) (c : Csr) (i : ℕ) → csr.hasBit (csr.writtenOf v
 
 -- [CSRWrite.2a] Where a write both sets and clears a bit, it clears it.
 abbrev pub ClearWins : Type 0
-ClearWins = (v : ℕ) (c : Csr) (i : ℕ) → i < 12 → bitAt v (16 + i) ≡ true → csr.hasBit (csr.setThenClearedOf v c) i ≡ false
+ClearWins = (v : ℕ) (c : Csr) (i : ℕ) → i < csr.settableCount → bitAt v (16 + i) ≡ true → csr.hasBit (csr.setThenClearedOf v c) i ≡ false
 
 -- [CSRWrite.2d] RESET clears bits 0–3.
 abbrev pub ResetClearsBits0To3 : Type 0

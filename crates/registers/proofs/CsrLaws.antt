@@ -16,7 +16,7 @@ use Rattle.bits.specs.Bits.{bitAt, bitsFrom, setOf}
 use Rattle.bits.proofs.TestLaws.{and-fails}
 use Rattle.bits.proofs.BitsLaws.{set-at, clear-at, and-at, shift-at, zero-at, run-at}
 use Rattle.bits.proofs.WidthLaws.{set-keeps-only, clear-keeps-only, and-keeps-only}
-use Rattle.registers.specs.Csr.{settableBits, statusBits, storedBits, resetBits, goBit}
+use Rattle.registers.specs.Csr.{settableCount, settableBits, statusBits, storedBits, resetBits, goBit}
 use Rattle.registers.specs.Csr.{hasBit, isGo, pausesOnNextSync, pausesAndSyncs, isValidStoredCsr}
 use Rattle.registers.specs.Csr.{freshOf, clearedOf, clearedIfOf, markedOf, syncHoldEndedOf, userSyncEndedOf}
 use Rattle.registers.specs.Csr.{syncHoldEndedIfOf, userSyncEndedIfOf}
@@ -33,7 +33,7 @@ low-run-at : (n i : ℕ) → bitAt (bitsFrom 0 n) i ≡ ltb i (0 + n)
 low-run-at n i = run-at 0 n i ∙ ap (λ (t : Bool). t && ltb i (0 + n)) (leb·zero i)
 
 settable-at : (v i : ℕ) → bitAt (bitAnd v settableBits) i ≡ (bitAt v i && isSettableBit i)
-settable-at v i = and-at v settableBits i ∙ ap (λ (t : Bool). bitAt v i && t) (low-run-at 12 i)
+settable-at v i = and-at v settableBits i ∙ ap (λ (t : Bool). bitAt v i && t) (low-run-at settableCount i)
 
 and-true : (t : Bool) → t ≡ (t && true)
 and-true true = refl
@@ -115,10 +115,10 @@ written-at v c i = after-request-at (requestedOf v) v c i
 -- ---- two rules of 01 that follow
 
 pub clear-wins : (v : ℕ) (c : Csr) (i : ℕ)
-    → i < 12 → bitAt v (16 + i) ≡ true → hasBit (setThenClearedOf v c) i ≡ false
+    → i < settableCount → bitAt v (16 + i) ≡ true → hasBit (setThenClearedOf v c) i ≡ false
 clear-wins v c i h clears =
     set-then-cleared-at v c i
-    ∙ ap₂ (λ (t u : Bool). (hasBit c i || (bitAt v i && u)) && not (t && u)) clears (lt-ltb i 12 h)
+    ∙ ap₂ (λ (t u : Bool). (hasBit c i || (bitAt v i && u)) && not (t && u)) clears (lt-ltb i settableCount h)
     ∙ and-fails (hasBit c i || (bitAt v i && true)) refl
 
 pub reset-clears : (v : ℕ) (c : Csr) (i : ℕ) → i < 4 → hasBit (afterRequestOf Reset v c) i ≡ false
