@@ -1,7 +1,6 @@
 -- What a register write that is carried out changes, and what a read gives.
 --     document 01     "Registers"
 --     writtenOf       the record after the write: csrWrittenOf for the CSR, settingWrittenOf for registers 1–16
---     coreSetOf, readoutSetOf   what a setting changes of the core, and of the readout
 --     storedOf        the stored value: settingOf for registers 1–16
 -- A value is cut to the width of its place; one that does not fit never comes this far ([Declines.2d]).
 -- Own rules of 01 used here: none. Decisions: none. Left out: nothing.
@@ -22,9 +21,7 @@ use Rattle.timers.specs.Timers as timers
 use Rattle.sync.specs.SyncCounter as counter
 use Rattle.scalers.specs.Scalers as scalers
 use Rattle.branches.specs.ReadoutFields.{withRoc}
-use Rattle.branches.specs.declared.Readout.{Readout}
 use Rattle.core.specs.CoreFields.{withPrescalers, withCsr, withControl, withScalers, withTimers, withSync}
-use Rattle.core.specs.declared.Core.{Core}
 use Rattle.supervisor.specs.Supervisor as supervisor
 use Rattle.supervisor.specs.declared.Supervisor.{Supervisor}
 
@@ -33,31 +30,21 @@ use Rattle.supervisor.specs.declared.Supervisor.{Supervisor}
 -- [CSRWrite.1] [CSRWrite.2d] INITIALIZE makes it fresh, RESET comes after the CSR's own bits
 abbrev pub afterCsrOf : Request → CsrWrite → Supervisor → Supervisor
 afterCsrOf Initialize w s = supervisor.initializedOf s
-afterCsrOf Reset w s = s ▷ supervisor.withCore (s .core ▷ withCsr (w .next)) ▷ supervisor.resetOf
-afterCsrOf Nothing w s = s ▷ supervisor.withCore (s .core ▷ withCsr (w .next))
+afterCsrOf Reset w s = s ▷ supervisor.onCore (withCsr (w .next)) ▷ supervisor.resetOf
+afterCsrOf Nothing w s = s ▷ supervisor.onCore (withCsr (w .next))
 
 unfoldable pub csrWrittenOf : (v : ℕ) → Supervisor → Supervisor
 csrWrittenOf v s = afterCsrOf (csr.writtenOf v (s .core .csr) .request) (csr.writtenOf v (s .core .csr)) s
 
--- ---- a setting: what it changes of the core, and of the readout
+-- ---- a setting
 
 -- [Registers.2] writing a factor loads its counter
-unfoldable pub coreSetOf : Setting → (v : ℕ) → Core → Core
-coreSetOf Control v c = c ▷ withControl (record { word = v })
-coreSetOf (Factor input) v c = c ▷ withPrescalers (prescaler.withFactorOf input v (c .prescalers))
-coreSetOf RocEnable v c = c
-coreSetOf Interval v c = c ▷ withSync (c .sync ▷ counter.withInterval (v % 2 ^ 16))
-coreSetOf (Timer n) v c = c ▷ withTimers (timers.writtenOf n v (c .timers))
-
-unfoldable pub readoutSetOf : Setting → (v : ℕ) → Readout → Readout
-readoutSetOf Control v r = r
-readoutSetOf (Factor input) v r = r
-readoutSetOf RocEnable v r = r ▷ withRoc v
-readoutSetOf Interval v r = r
-readoutSetOf (Timer n) v r = r
-
-abbrev pub settingWrittenOf : Setting → (v : ℕ) → Supervisor → Supervisor
-settingWrittenOf r v s = record { core = coreSetOf r v (s .core); readout = readoutSetOf r v (s .readout) }
+unfoldable pub settingWrittenOf : Setting → (v : ℕ) → Supervisor → Supervisor
+settingWrittenOf Control v s = s ▷ supervisor.onCore (withControl (record { word = v }))
+settingWrittenOf (Factor input) v s = s ▷ supervisor.onCore (withPrescalers (prescaler.withFactorOf input v (s .core .prescalers)))
+settingWrittenOf RocEnable v s = s ▷ supervisor.withReadout (s .readout ▷ withRoc v)
+settingWrittenOf Interval v s = s ▷ supervisor.onCore (withSync (s .core .sync ▷ counter.withInterval (v % 2 ^ 16)))
+settingWrittenOf (Timer n) v s = s ▷ supervisor.onCore (withTimers (timers.writtenOf n v (s .core .timers)))
 
 -- ---- any register
 
@@ -65,8 +52,8 @@ settingWrittenOf r v s = record { core = coreSetOf r v (s .core); readout = read
 unfoldable pub writtenOf : Register → (v : ℕ) → Supervisor → Supervisor
 writtenOf Csr v s = csrWrittenOf v s
 writtenOf (register.Setting r) v s = settingWrittenOf r v s
-writtenOf (Scaler n) v s = s ▷ supervisor.withCore (s .core ▷ withScalers (scalers.zeroedOf n (s .core .scalers)))
-writtenOf Assign v s = s ▷ supervisor.withCore (s .core ▷ withScalers (s .core .scalers ▷ scalers.withAssign v))
+writtenOf (Scaler n) v s = s ▷ supervisor.onCore (withScalers (scalers.zeroedOf n (s .core .scalers)))
+writtenOf Assign v s = s ▷ supervisor.onCore (withScalers (s .core .scalers ▷ scalers.withAssign v))
 writtenOf Absent v s = s
 
 -- ---- a read

@@ -1,12 +1,11 @@
 // What a register write that is carried out does to the record, and what a register reads (document 01, "Registers"). The
 // definitions are in specs/Access.antt.
 ghost use mathlib.Core.Path.{_≡_};
+ghost use Rattle.branches.specs.ReadoutFields.{withRoc};
 ghost use Rattle.core.specs.CoreFields.{withScalers};
-ghost use Rattle.supervisor.specs.Supervisor.{withCore};
-ghost use Rattle.access.specs.Access.{afterCsrOf, csrWrittenOf, coreSetOf, readoutSetOf, settingWrittenOf};
+ghost use Rattle.supervisor.specs.Supervisor.{withReadout, onCore};
+ghost use Rattle.access.specs.Access.{afterCsrOf, csrWrittenOf, settingWrittenOf};
 ghost use Rattle.access.specs.Access.{writtenOf, settingOf, storedOf};
-use branches::Readout;
-use core::Core;
 use registers::control::Control;
 use registers::csr::Csr;
 use registers::csr::CsrWrite;
@@ -39,67 +38,49 @@ fn csr_written(s: Supervisor, value: u32) -> Supervisor
     after_csr(s, csr.written(value))
 }
 
-// [Registers.2] what a setting changes of the core
-fn core_set(core: Core, setting: Setting, value: u32) -> Core
-    ensures { λ r. ⌜ r ≡ coreSetOf setting value core ⌝ }
+fn roc_written(s: Supervisor, value: u32) -> Supervisor
+    ensures { λ r. ⌜ r ≡ withReadout (withRoc value (s .readout)) s ⌝ }
 {
-    let mut next = core;
+    let mut readout = s.readout;
+    readout.roc = value;
+    s.with_readout(readout)
+}
+
+// [Registers.2] a write to one of registers 1–16
+fn setting_written(s: Supervisor, setting: Setting, value: u32) -> Supervisor
+    ensures { λ r. ⌜ r ≡ settingWrittenOf setting value s ⌝ }
+{
+    let mut core = s.core;
     match setting {
         Setting::Control => {
             let control = Control { word: value };
-            next.control = control;
-            next
+            core.control = control;
+            s.with_core(core)
         }
         Setting::Factor(input) => {
             let prescalers = core.prescalers.with_factor(input, value);
-            next.prescalers = prescalers;
-            next
+            core.prescalers = prescalers;
+            s.with_core(core)
         }
-        Setting::RocEnable => core,
+        Setting::RocEnable => roc_written(s, value),
         Setting::Interval => {
             let sync = SyncCounter {
                 interval: (value % 65536) as u16,
                 count: core.sync.count,
             };
-            next.sync = sync;
-            next
+            core.sync = sync;
+            s.with_core(core)
         }
         Setting::Timer(n) => {
             let timers = core.timers.written(n, value);
-            next.timers = timers;
-            next
+            core.timers = timers;
+            s.with_core(core)
         }
-    }
-}
-
-// what a setting changes of the readout
-fn readout_set(readout: Readout, setting: Setting, value: u32) -> Readout
-    ensures { λ r. ⌜ r ≡ readoutSetOf setting value readout ⌝ }
-{
-    let mut next = readout;
-    match setting {
-        Setting::Control => readout,
-        Setting::Factor(_) => readout,
-        Setting::RocEnable => {
-            next.roc = value;
-            next
-        }
-        Setting::Interval => readout,
-        Setting::Timer(_) => readout,
-    }
-}
-
-fn setting_written(s: Supervisor, setting: Setting, value: u32) -> Supervisor
-    ensures { λ r. ⌜ r ≡ settingWrittenOf setting value s ⌝ }
-{
-    Supervisor {
-        readout: readout_set(s.readout, setting, value),
-        core: core_set(s.core, setting, value),
     }
 }
 
 fn scalers_written(s: Supervisor, scalers: Scalers) -> Supervisor
-    ensures { λ r. ⌜ r ≡ withCore (withScalers scalers (s .core)) s ⌝ }
+    ensures { λ r. ⌜ r ≡ onCore (withScalers scalers) s ⌝ }
 {
     let mut core = s.core;
     core.scalers = scalers;

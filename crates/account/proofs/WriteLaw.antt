@@ -36,8 +36,8 @@ use Rattle.core.specs.Core as core
 use Rattle.core.specs.declared.Core.{Core}
 use Rattle.supervisor.specs.Supervisor.{freshOf, resetOf, initializedOf}
 use Rattle.supervisor.specs.declared.Supervisor.{Supervisor}
-use Rattle.access.specs.Access.{afterCsrOf, csrWrittenOf, coreSetOf, readoutSetOf, settingWrittenOf, writtenOf}
-use Rattle.account.specs.AccountFields.{Settings, Passes, Account, withFactor, put}
+use Rattle.access.specs.Access.{afterCsrOf, csrWrittenOf, settingWrittenOf, writtenOf}
+use Rattle.account.specs.AccountFields.{Settings, Passes, Account, put}
 use Rattle.account.specs.Account.{noEvents, start, afterRequest, afterSetting, afterWrite}
 use Rattle.account.proofs.Invariant.{SettingsFollow, Ordering, BranchesFollow, Invariant}
 
@@ -106,7 +106,7 @@ module _ (b : Prescalers) {control : ℕ} {s : Settings} {q : Passes} (v : Setti
         rw (at .counter, at .factor) (v .count i h)
 
     -- [Registers.2] [Account.7]
-    factor-keeps-settings : SettingsFollow control loaded (s ▷ withFactor (put (s .factor) (input - 1) x))
+    factor-keeps-settings : SettingsFollow control loaded (record { control = s .control; factor = put (s .factor) (input - 1) x })
         (record { n = put (q .n) (input - 1) 0; p = put (q .p) (input - 1) 0 })
     factor-keeps-settings =
         record {
@@ -150,7 +150,7 @@ module _ {branches : ℕ} (s : Supervisor) (a : Account) (v : Invariant branches
 
   -- [Account.6] [Account.7]
   setting-keeps-invariant : (r : Setting) → SettingInRange r → (x : ℕ) → after (settingWrittenOf r x) (afterSetting r x a)
-  unfolding coreSetOf readoutSetOf
+  unfolding settingWrittenOf
   setting-keeps-invariant Control h x =
       let f = v .settings in
       record {

@@ -35,9 +35,12 @@ use Rattle.supervisor.specs.declared.Answer.{Answer}
 use Rattle.declines.specs.Answers.{Reply, declined, done, value, ticked}
 use Rattle.declines.specs.Runs.{Ask, writeRegister, readRegister, writeMemory, readMemory, tick, Entry}
 use Rattle.account.specs.AccountFields.{Settings, Passes, Sums, Events, Account}
-use Rattle.account.specs.AccountFields.{withSettings, withPasses, withControl, withFactor, put}
+use Rattle.account.specs.AccountFields.{withSettings, withPasses, put}
 
 -- ---- the start
+
+abbrev pub noPasses : Passes
+noPasses = record { n = λ i. 0; p = λ i. 0 }
 
 abbrev pub noSums : Sums
 noSums = record { counted = λ i. 0; stopped = λ i. 0; scaled = λ i. 0; lost = λ i. 0; rejected = λ i. 0; accepted = λ i. 0 }
@@ -48,14 +51,7 @@ noEvents = record { accepted = 0; cleared = 0; loaded = 0; tags = 0; undecided =
 -- [Account.4] [Account.9] all counts 0, all lists empty, nothing undecided
 abbrev pub startOf : Settings → Account
 startOf settings =
-    record {
-      settings = settings;
-      passes = record { n = λ i. 0; p = λ i. 0 };
-      sums = noSums;
-      events = noEvents;
-      words = [];
-      finished = λ k. [];
-    }
+    record { settings = settings; passes = noPasses; sums = noSums; events = noEvents; words = []; finished = λ k. [] }
 
 -- [Account.4] control 0, every factor 0
 abbrev pub start : Account
@@ -134,12 +130,12 @@ afterRequest Nothing a = a
 -- [Account.7] input is counted from 1; its own n and p start anew
 abbrev pub afterFactor : (input v : ℕ) → Account → Account
 afterFactor input v a =
-    a ▷ withSettings (a .settings ▷ withFactor (put (a .settings .factor) (input - 1) v))
+    a ▷ withSettings (record { control = a .settings .control; factor = put (a .settings .factor) (input - 1) v })
     ▷ withPasses (record { n = put (a .passes .n) (input - 1) 0; p = put (a .passes .p) (input - 1) 0 })
 
 -- [Account.5] [Account.6] every other setting leaves it alone
 abbrev pub afterSetting : Setting → (v : ℕ) → Account → Account
-afterSetting Control v a = a ▷ withSettings (a .settings ▷ withControl v)
+afterSetting Control v a = a ▷ withSettings (record { control = v; factor = a .settings .factor })
 afterSetting (Factor input) v a = afterFactor input v a
 afterSetting RocEnable v a = a
 afterSetting Interval v a = a

@@ -56,11 +56,5 @@ withSettings v a = record { settings = v; passes = a .passes; sums = a .sums; ev
 abbrev pub withPasses : Passes → Account → Account
 withPasses v a = record { settings = a .settings; passes = v; sums = a .sums; events = a .events; words = a .words; finished = a .finished }
 
-abbrev pub withControl : ℕ → Settings → Settings
-withControl v s = record { control = v; factor = s .factor }
-
-abbrev pub withFactor : (ℕ → ℕ) → Settings → Settings
-withFactor v s = record { control = s .control; factor = v }
-
 abbrev pub put : (ℕ → ℕ) → (k v : ℕ) → ℕ → ℕ
 put f k v i = if eqb i k then v else f i

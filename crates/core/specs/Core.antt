@@ -13,7 +13,7 @@
 use Prim.Native.Nat.{ℕ, _+_, _*_, _%_}
 use mathlib.Core.Bool.{Bool, not, _&&_, _||_}
 use mathlib.Core.List.{List, [], _∷_, _++_}
-use Rattle.bits.specs.Notation.{if_then_else_}
+use Rattle.bits.specs.Notation.{if_then_else_, _▷_}
 use Rattle.bits.specs.Bits.{oneIfOf, allTrue}
 use Rattle.registers.specs.Csr as csr
 use Rattle.registers.specs.Control as control
@@ -38,6 +38,7 @@ use Rattle.trigger.specs.Effects.{csrAfterOf, syncAfterOf, outcomeOf, signalsOf
 use Rattle.trigger.specs.declared.lines.Lines.{Lines}
 use Rattle.trigger.specs.declared.lines.Inputs.{Inputs}
 use Rattle.trigger.specs.declared.latch.Latch.{Latch}
+use Rattle.core.specs.CoreFields.{withPrescalers, withScalers, withMain, withSync, withUser}
 use Rattle.core.specs.declared.Core.{Core}
 use Rattle.core.specs.declared.CoreStep.{CoreStep}
 
@@ -61,16 +62,8 @@ freshOf =
 -- cleared by the write
 unfoldable pub resetOf : Core → Core
 resetOf c =
-    record {
-      prescalers = prescaler.reloadedOf (c .prescalers);
-      csr = c .csr;
-      control = c .control;
-      scalers = scalers.resetOf (c .scalers);
-      main = main.idleOf;
-      timers = c .timers;
-      sync = counter.zeroedOf (c .sync);
-      user = user.freshOf;
-    }
+    c ▷ withPrescalers (prescaler.reloadedOf (c .prescalers)) ▷ withScalers (scalers.resetOf (c .scalers))
+    ▷ withMain main.idleOf ▷ withSync (counter.zeroedOf (c .sync)) ▷ withUser user.freshOf
 
 -- ---- pulses
 

@@ -6,6 +6,8 @@ use Rattle.registers.specs.declared.control.Control.{Control}
 use Rattle.prescaler.specs.declared.Prescalers.{Prescalers}
 use Rattle.timers.specs.declared.Timers.{Timers}
 use Rattle.sync.specs.declared.counter.SyncCounter.{SyncCounter}
+use Rattle.sync.specs.declared.user.UserSync.{UserSync}
+use Rattle.sequencer.specs.declared.main_sequencer.MainSequencer.{MainSequencer}
 use Rattle.scalers.specs.declared.Scalers.{Scalers}
 use Rattle.core.specs.declared.Core.{Core}
 
@@ -26,3 +28,9 @@ withTimers v c = record { prescalers = c .prescalers; csr = c .csr; control = c 
 
 abbrev pub withSync : SyncCounter → Core → Core
 withSync v c = record { prescalers = c .prescalers; csr = c .csr; control = c .control; scalers = c .scalers; main = c .main; timers = c .timers; sync = v; user = c .user }
+
+abbrev pub withMain : MainSequencer → Core → Core
+withMain v c = record { prescalers = c .prescalers; csr = c .csr; control = c .control; scalers = c .scalers; main = v; timers = c .timers; sync = c .sync; user = c .user }
+
+abbrev pub withUser : UserSync → Core → Core
+withUser v c = record { prescalers = c .prescalers; csr = c .csr; control = c .control; scalers = c .scalers; main = c .main; timers = c .timers; sync = c .sync; user = v }

@@ -44,7 +44,7 @@ use Rattle.core.specs.Core as core
 use Rattle.core.specs.declared.Core.{Core}
 use Rattle.supervisor.specs.Supervisor.{freshOf, initializedOf, resetOf}
 use Rattle.supervisor.specs.declared.Supervisor.{Supervisor}
-use Rattle.access.specs.Access.{afterCsrOf, csrWrittenOf, coreSetOf, readoutSetOf, settingWrittenOf, writtenOf}
+use Rattle.access.specs.Access.{afterCsrOf, csrWrittenOf, settingWrittenOf, writtenOf}
 use Rattle.declines.specs.Calls.{markedOf}
 use Rattle.reach.specs.NeverSpoiled.{OfType}
 use Rattle.reach.proofs.Sound.{SoundBranch, Unspoiled}
@@ -148,7 +148,7 @@ zeroed-keeps-assign n x h = by-cond (λ (y : Scalers). isValidAssign (y .assign)
 module _ (s : Supervisor) (ofType : OfType s) (u : Unspoiled (s .core) (s .readout .branches)) where
   -- a setting touches neither main, the user sync nor the branches
   setting-keeps-unspoiled : (r : Setting) (v : ℕ) → isValidSetting r v ≡ true → after s u (settingWrittenOf r v)
-  unfolding coreSetOf readoutSetOf
+  unfolding settingWrittenOf
   setting-keeps-unspoiled Control v valid =
       record {
         bank = u .bank;
@@ -202,7 +202,7 @@ module _ (s : Supervisor) (ofType : OfType s) (u : Unspoiled (s .core) (s .reado
   of-request Nothing w = record { eight = ofType .eight; interval = ofType .interval }
 
   setting-keeps-type : (r : Setting) (v : ℕ) → OfType (settingWrittenOf r v s)
-  unfolding coreSetOf readoutSetOf
+  unfolding settingWrittenOf
   setting-keeps-type Control v = record { eight = ofType .eight; interval = ofType .interval }
   setting-keeps-type (Factor input) v =
       record {

@@ -35,6 +35,9 @@ withReadout v s = record { readout = v; core = s .core }
 abbrev pub withCore : Core → Supervisor → Supervisor
 withCore v s = record { readout = s .readout; core = v }
 
+abbrev pub onCore : (Core → Core) → Supervisor → Supervisor
+onCore f s = withCore (f (s .core)) s
+
 -- ---- fresh, and RESET
 
 -- [Registers.4] [Declines.6] all zero, all idle; nothing declines it
