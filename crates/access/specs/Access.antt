@@ -22,16 +22,16 @@ use Rattle.sync.specs.SyncCounter as counter
 use Rattle.scalers.specs.Scalers as scalers
 use Rattle.branches.specs.ReadoutFields.{withRoc}
 use Rattle.core.specs.CoreFields.{withPrescalers, withCsr, withControl, withScalers, withTimers, withSync}
-use Rattle.supervisor.specs.Supervisor as supervisor
+use Rattle.supervisor.specs.Supervisor.{withReadout, onCore, initializedOf, resetOf}
 use Rattle.supervisor.specs.declared.Supervisor.{Supervisor}
 
 -- ---- a CSR write, by what it asks of the record
 
 -- [CSRWrite.1] [CSRWrite.2d] INITIALIZE makes it fresh, RESET comes after the CSR's own bits
 abbrev pub afterCsrOf : Request → CsrWrite → Supervisor → Supervisor
-afterCsrOf Initialize w s = supervisor.initializedOf s
-afterCsrOf Reset w s = s ▷ supervisor.onCore (withCsr (w .next)) ▷ supervisor.resetOf
-afterCsrOf Nothing w s = s ▷ supervisor.onCore (withCsr (w .next))
+afterCsrOf Initialize w s = initializedOf s
+afterCsrOf Reset w s = s ▷ onCore (withCsr (w .next)) ▷ resetOf
+afterCsrOf Nothing w s = s ▷ onCore (withCsr (w .next))
 
 unfoldable pub csrWrittenOf : (v : ℕ) → Supervisor → Supervisor
 csrWrittenOf v s = afterCsrOf (csr.writtenOf v (s .core .csr) .request) (csr.writtenOf v (s .core .csr)) s
@@ -40,11 +40,11 @@ csrWrittenOf v s = afterCsrOf (csr.writtenOf v (s .core .csr) .request) (csr.wri
 
 -- [Registers.2] writing a factor loads its counter
 unfoldable pub settingWrittenOf : Setting → (v : ℕ) → Supervisor → Supervisor
-settingWrittenOf Control v s = s ▷ supervisor.onCore (withControl (record { word = v }))
-settingWrittenOf (Factor input) v s = s ▷ supervisor.onCore (withPrescalers (prescaler.withFactorOf input v (s .core .prescalers)))
-settingWrittenOf RocEnable v s = s ▷ supervisor.withReadout (s .readout ▷ withRoc v)
-settingWrittenOf Interval v s = s ▷ supervisor.onCore (withSync (s .core .sync ▷ counter.withInterval (v % 2 ^ 16)))
-settingWrittenOf (Timer n) v s = s ▷ supervisor.onCore (withTimers (timers.writtenOf n v (s .core .timers)))
+settingWrittenOf Control v s = s ▷ onCore (withControl (record { word = v }))
+settingWrittenOf (Factor input) v s = s ▷ onCore (withPrescalers (prescaler.withFactorOf input v (s .core .prescalers)))
+settingWrittenOf RocEnable v s = s ▷ withReadout (s .readout ▷ withRoc v)
+settingWrittenOf Interval v s = s ▷ onCore (withSync (s .core .sync ▷ counter.withInterval (v % 2 ^ 16)))
+settingWrittenOf (Timer n) v s = s ▷ onCore (withTimers (timers.writtenOf n v (s .core .timers)))
 
 -- ---- any register
 
@@ -52,8 +52,8 @@ settingWrittenOf (Timer n) v s = s ▷ supervisor.onCore (withTimers (timers.wri
 unfoldable pub writtenOf : Register → (v : ℕ) → Supervisor → Supervisor
 writtenOf Csr v s = csrWrittenOf v s
 writtenOf (register.Setting r) v s = settingWrittenOf r v s
-writtenOf (Scaler n) v s = s ▷ supervisor.onCore (withScalers (scalers.zeroedOf n (s .core .scalers)))
-writtenOf Assign v s = s ▷ supervisor.onCore (withScalers (s .core .scalers ▷ scalers.withAssign v))
+writtenOf (Scaler n) v s = s ▷ onCore (withScalers (scalers.zeroedOf n (s .core .scalers)))
+writtenOf Assign v s = s ▷ onCore (withScalers (s .core .scalers ▷ scalers.withAssign v))
 writtenOf Absent v s = s
 
 -- ---- a read

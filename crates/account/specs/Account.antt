@@ -97,15 +97,13 @@ eventsAfter y e =
       undecided = undecidedAfter (isSome (y .masks .accepted)) (y .outcome) (e .undecided);
     }
 
--- [Account.12] counted and not in stopped; and not in scaled either
-abbrev pub isUnstopped : (counted : ℕ → Bool) → Answer → (i : ℕ) → Bool
-isUnstopped counted y i = counted i && not (bitAt (y .masks .stopped) i)
-
-abbrev pub isThrough : (counted : ℕ → Bool) → Answer → (i : ℕ) → Bool
-isThrough counted y i = counted i && (not (bitAt (y .masks .stopped) i) && not (bitAt (y .masks .scaled) i))
-
+-- [Account.12] n counts what is not in stopped, p what is not in scaled either
 abbrev pub passesAfter : (counted : ℕ → Bool) → Answer → Passes → Passes
-passesAfter counted y q = record { n = add (q .n) (isUnstopped counted y); p = add (q .p) (isThrough counted y) }
+passesAfter counted y q =
+    record {
+      n = add (q .n) (λ i. counted i && not (bitAt (y .masks .stopped) i));
+      p = add (q .p) (λ i. counted i && (not (bitAt (y .masks .stopped) i) && not (bitAt (y .masks .scaled) i)));
+    }
 
 -- [Account.15] a loaded word joins the words, each finished word its branch's
 unfoldable pub afterTick : Inputs → Answer → Account → Account
