@@ -15,7 +15,7 @@ use Rattle.claims.specs.Parts.{FirstPulseIsScaled, FailBeatsPass2, FailB
 use Rattle.claims.specs.Parts.{SyncLoadKeepsCount, UserSyncEndsExactly, BranchKeepsOrder, StrobeHasWord}
 use Rattle.claims.specs.Parts.{NoneEnabledIsHigh, NoneEnabledIsLow, IntervalFitsItsWidth, ControlFitsItsBits}
 use Rattle.claims.specs.Parts.{PastLastIsAbsent, FactsByNumber, PlaceForEachPattern, ResetClearsBits0To3}
-use Rattle.claims.specs.Parts.{MarksSetStatusBits, SyncHoldEndsARun}
+use Rattle.claims.specs.Parts.{WriteLeavesOtherPlaces, MarksSetStatusBits, SyncHoldEndsARun}
 use Rattle.claims.specs.Parts.{UserSyncEndsARun, FirstPulseIsScaledAfterReset, ZeroIsPassed, Inputs9To12Pass}
 
 pub factor-fits-its-width : FactorFitsItsWidth
@@ -38,6 +38,9 @@ facts-by-number = registers.facts-by-number
 
 pub place-for-each-pattern : PlaceForEachPattern
 place-for-each-pattern = calls.place-for-each-pattern
+
+pub write-leaves-other-places : WriteLeavesOtherPlaces
+write-leaves-other-places = calls.write-leaves-other-places
 
 pub assign-declines-40-to-4F : AssignDeclines40To4F
 assign-declines-40-to-4F = registers.assign-declines-40-to-4F

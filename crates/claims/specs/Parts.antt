@@ -4,10 +4,10 @@
 use Prim.Native.Nat.{ℕ, _+_, _/_, _^_, _<_, _≤_}
 use mathlib.Core.Path.{_≡_}
 use mathlib.Core.Bool.{Bool, true, false, not, _&&_, _||_}
-use mathlib.Core.List.{_++_}
+use mathlib.Core.List.{List, _++_}
 use mathlib.Core.Logic.{_↔_}
 use lib.Dec.{eqb, ltb, leb}
-use lib.ListN.{length}
+use lib.ListN.{length, getD}
 use Rattle.bits.specs.Bits.{bitAt, oneIfOf, NoBitOutside, NoBitOutsideOf}
 use Rattle.registers.specs.Csr as csr
 use Rattle.registers.specs.Control.{inputs}
@@ -35,7 +35,8 @@ use Rattle.branch.specs.Slots.{wordsIn}
 use Rattle.branch.specs.declared.Branch.{Branch}
 use Rattle.branch.specs.declared.Phase.the-variants.{Strobe}
 use Rattle.branch.specs.declared.Slot.{Slot}
-use Rattle.declines.specs.Calls.{memoryPlaces}
+use Rattle.supervisor.specs.declared.Supervisor.{Supervisor}
+use Rattle.declines.specs.Calls.{memoryPlaces, memoryAfterOf}
 
 -- ---- registers
 
@@ -65,6 +66,12 @@ FactsByNumber = (n : ℕ) → factsOf (numberedOf n) ≡ facts (leb n 19) (leb n
 -- [Memory.1] The memory has a place for each pattern of the twelve inputs.
 abbrev pub PlaceForEachPattern : Type 0
 PlaceForEachPattern = memoryPlaces ≡ 2 ^ inputs
+
+-- [Declines.1b] A memory write, declined or not, leaves every other place as it is.
+abbrev pub WriteLeavesOtherPlaces : Type 0
+WriteLeavesOtherPlaces =
+    (memory : List ℕ) (place word : ℕ) (s : Supervisor) (k : ℕ) → (k ≡ place → ⊥)
+    → getD (memoryAfterOf memory place word s) k 0 ≡ getD memory k 0
 
 -- [Assign.1] The assign codes 40h–4Fh, and those from 60h, name nothing.
 abbrev pub AssignDeclines40To4F : Type 0
