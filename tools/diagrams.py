@@ -6,6 +6,7 @@
 
 Both refuse, with exit 1, a table whose moves are not exactly those of the definitions of sequencer, core and branch.
 """
+import re
 import sys
 import typing
 
@@ -142,7 +143,7 @@ def main_edges(sequencer, core):
     yield from main.checked("stepBy")
     yield from (Edge("Idle", "acceptedOf", after) for after in main.after(main.single("enterBy"), "Idle"))
     for name in ("resetOf", "freshOf"):
-        if "main = main.idleOf;" in body[name]:
+        if re.search(r"\bmain = main\.idleOf;|▷ withMain main\.idleOf\b", body[name]):
             yield from (Edge(EVERY, name, after) for after in main.after(main.single("idleOf"), EVERY))
 
 

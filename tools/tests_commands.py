@@ -9,6 +9,7 @@ import tempfile
 import unittest
 import unittest.mock
 
+import fields
 import impostors
 import links
 import trace
@@ -16,7 +17,7 @@ from page import TOP, keep, read, write
 
 FIRST = TOP / "examples" / "first.txt"
 SCRIPTS = {"explain": [FIRST], "wave": [FIRST]}
-PAGES = ["cases.py", "diagrams.py", "examples.py", "impostors.py", "links.py", "sizes.py", "timing.py", "trace.py"]
+PAGES = ["cases.py", "diagrams.py", "examples.py", "fields.py", "impostors.py", "links.py", "sizes.py", "timing.py", "trace.py"]
 
 
 def ran(*command, folder=TOP, **more):
@@ -174,6 +175,26 @@ class Tags(unittest.TestCase):
         self.assertEqual(self.named(*code, mark="//", pattern=trace.RATTLE), [["A", "B"]])
         field = ["struct S {", "    // [Main.6] late", "    pub late: bool,", "}", "", "pub struct T {"]
         self.assertEqual(self.named(*field, mark="//", pattern=trace.RATTLE), [])
+
+
+class Setters(unittest.TestCase):
+    """A setter lists the fields of its record, and sets the one that its literal gave v to."""
+
+    OLD = "abbrev pub withLen : ℕ → Branch → Branch\nwithLen v b = record { %s }\n"
+
+    def made(self, literal):
+        faults = []
+        found = fields.SETTER.search(self.OLD % literal)
+        return fields.setter(found, {"Branch": ["words", "len"]}, "x", faults), faults
+
+    def test_fields(self):
+        right = (self.OLD % "words = b .words; len = v").rstrip("\n")
+        self.assertEqual(self.made("len = v"), (right, []))
+        self.assertEqual(self.made("phase = b .phase; len = v; words = b .words"), (right, []))
+
+    def test_refused(self):
+        for literal in ("phase = v", "words = b .words", "words = v; len = v"):
+            self.assertEqual(self.made(literal)[1], ["x: withLen gives v to no field of Branch, or to more than one"])
 
 
 class Requests(unittest.TestCase):

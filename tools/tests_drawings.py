@@ -176,6 +176,7 @@ class Diagrams(unittest.TestCase):
             (0, "m ▷ raiseIf (t .due2) accept2Line", "m ▷ withState Idle ▷ raiseIf (t .due2) accept2Line"),
             (1, "isReadyOf l c = isIdle (c .main .state) && isOpenOf l c", "isReadyOf l c = isOpenOf l c"),
             (1, "main = main.idleOf", "main = c .main"),
+            (1, "withMain main.idleOf", "withMain (c .main)"),
             (2, "removeFirst ▷ withPhase Drop", "removeFirst ▷ withPhase Rest"),
             (2, "if low then rests else stays", "rests"),
         ]:
