@@ -1,8 +1,7 @@
 // A record as plain numbers, for harness and pace. No contract is made here; the functions are proved safe and ending.
 //
-// A record is 50 numbers: the registers 0–19; the counters of inputs 1–8; main's state, age, clear count, class, code,
-// accept pattern, raised lines and late mark; the sync count; the user sync's wait; then words, length and phase of
-// each branch. Places 0–49 are taken: a new number is appended, from place 50 on.
+// A record is numbers by their place: the registers are 0–19, and the place of every other field stands with its part, in
+// core_part and readout_part. A new number is appended after the last place taken.
 use core_part::core_in;
 use core_part::put_core;
 use readout_part::put_readout;

@@ -92,7 +92,7 @@ fn core_in(table: &[u64]) -> Core {
         timers: timers_in(table),
         sync,
         user: UserSync::fresh(),
-        // none today: a field that the core gets later. Main and user taken from here cost a tick 7 instructions
+        // any field that is not named above; main and user taken from here cost a tick 7 instructions
         ..Core::fresh()
     }
 }
