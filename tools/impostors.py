@@ -4,7 +4,8 @@
     tools/impostors.py           rewrites the list
     tools/impostors.py --check   exits 1 if the list is not what the edits say
 
-Refused, with or without --check: a page of docs/ that names an edit which is not there.
+Refused, with or without --check: a page of docs/ that names an edit which is not there; an edit whose old text does not stand
+once in its file.
 """
 import re
 import sys
@@ -35,14 +36,24 @@ def missing(text, listed):
     return sorted(name for name in named - {name for name, _ in listed} if not re.search("/(src|specs|proofs)", name))
 
 
+def fits(text, crate):
+    """Whether the old text of an edit stands once in the file that it names."""
+    said = dict(line.split(": ", 1) for line in text.splitlines() if re.match("(file|old|new): ", line))
+    path = crate / said.get("file", "")
+    return path.is_file() and read(path).count(said.get("old", "")) == 1
+
+
 def main():
     check = asks_check(__doc__)
     listed = list(edits())
     text = page(listed)
-    lost = missing(text, listed)
-    for name in lost:
-        print(f"no such edit: {name}")
-    return max(keep(PAGE, text, check), 1 if lost else 0)
+    faults = [f"no such edit: {name}" for name in missing(text, listed)]
+    for path in sorted(TOP.glob("crates/*/must-fail/*.edit")):
+        if not fits(read(path), path.parent.parent):
+            faults.append(f"{path.relative_to(TOP)}: its old text does not stand once in its file")
+    for fault in faults:
+        print(fault)
+    return max(keep(PAGE, text, check), 1 if faults else 0)
 
 
 if __name__ == "__main__":

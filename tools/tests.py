@@ -12,7 +12,7 @@ import unittest
 import session
 from page import TOP
 from sentences import line_words
-from tests_commands import Checks, Console, Requests, Setters, Tags, Words, tool  # noqa: F401  run here too
+from tests_commands import Checks, Console, Edits, Requests, Setters, Tags, Words, tool  # noqa: F401  run here too
 from tests_drawings import Diagrams, Timing, Wave  # noqa: F401
 
 TICK = "T 000 00 00000000"

@@ -177,6 +177,20 @@ class Tags(unittest.TestCase):
         self.assertEqual(self.named(*field, mark="//", pattern=trace.RATTLE), [])
 
 
+class Edits(unittest.TestCase):
+    """An edit fits where its old text stands once in its file."""
+
+    def test_fits(self):
+        crate = TOP / "crates" / "bits"
+        for file, old, right in (
+            ("src/lib.rt", "pub fn bit_at(", True),
+            ("src/lib.rt", "no such text", False),
+            ("src/lib.rt", "pub fn ", False),
+            ("src/none.rt", "pub fn bit_at(", False),
+        ):
+            self.assertEqual(impostors.fits(f"# wrong\nfile: {file}\nold: {old}\nnew: x\n", crate), right, old)
+
+
 class Setters(unittest.TestCase):
     """A setter lists the fields of its record, and sets the one that its literal gave v to."""
 
