@@ -135,7 +135,7 @@ module _ {branches : ℕ} (c : Core) (bs : List Branch) (a : Account) (v : Invar
         branches = rw (v .branches .number) (fresh-branches branches);
       }
 
--- ---- a setting
+-- ---- a register write
 
 module _ {branches : ℕ} (s : Supervisor) (a : Account) (v : Invariant branches (s .core) (s .readout .branches) a) where
   abbrev after : (Supervisor → Supervisor) → Account → Type 0
@@ -169,8 +169,6 @@ module _ {branches : ℕ} (s : Supervisor) (a : Account) (v : Invariant branches
   setting-keeps-invariant RocEnable h x = v
   setting-keeps-invariant Interval h x = v
   setting-keeps-invariant (Timer n) h x = v
-
-  -- ---- every register
 
   register-keeps-invariant : (r : Register) → InRange r → (x : ℕ) → after (writtenOf r x) (afterWrite r x a)
   unfolding writtenOf csrWrittenOf csr.writtenOf

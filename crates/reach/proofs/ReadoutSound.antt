@@ -22,7 +22,6 @@ use Rattle.branches.specs.Readout as readout
 use Rattle.branches.proofs.ReadoutLaws as laws
 use Rattle.sequencer.specs.States.{outcomeWords}
 use Rattle.sequencer.specs.declared.states.Outcome.{Outcome}
-use Rattle.sequencer.specs.declared.states.Outcome.the-variants.{Nothing}
 use Rattle.supervisor.specs.Supervisor.{loadOf}
 use Rattle.supervisor.proofs.SupervisorLaws.{load-words, no-load}
 use Rattle.core.proofs.CoreParts.{isLoad}

@@ -70,6 +70,10 @@ fresh-is-unspoiled n =
       branches = λ k h. fresh-branch _ _ (laws.fresh-is-fresh n k (rw (laws.fresh-has-length n) at h));
     }
 
+-- a change leaves a record that is not spoiled
+abbrev UnspoiledAfter : (Supervisor → Supervisor) → Supervisor → Type 0
+UnspoiledAfter f s = Unspoiled (f s .core) (f s .readout .branches)
+
 -- ---- the CSR
 
 module _ (c : Core) (bs : List Branch) (u : Unspoiled c bs) where
@@ -95,17 +99,14 @@ module _ (c : Core) (bs : List Branch) (u : Unspoiled c bs) where
       }
 
 module _ (s : Supervisor) (u : Unspoiled (s .core) (s .readout .branches)) where
-  abbrev after : (Supervisor → Supervisor) → Type 0
-  after f = Unspoiled (f s .core) (f s .readout .branches)
-
   -- [Declines.2c] [Declines.4d]
-  pub marked-keeps-unspoiled : (status : ℕ) → after (markedOf status)
+  pub marked-keeps-unspoiled : (status : ℕ) → UnspoiledAfter (markedOf status) s
   unfolding markedOf
   marked-keeps-unspoiled status =
       with-csr (s .core) (s .readout .branches) u (csr.markedOf status (s .core .csr))
       (csrLaws.marked-keeps-valid status (s .core .csr) (u .registers .csr))
 
-  by-request : (r : Request) (w : CsrWrite) → csr.isValidStoredCsr (w .next) ≡ true → after (afterCsrOf r w)
+  by-request : (r : Request) (w : CsrWrite) → csr.isValidStoredCsr (w .next) ≡ true → UnspoiledAfter (afterCsrOf r w) s
   unfolding initializedOf resetOf readout.emptiedOf
   by-request Initialize w valid = fresh-is-unspoiled (length (s .readout .branches))
   by-request Reset w valid =
@@ -113,7 +114,7 @@ module _ (s : Supervisor) (u : Unspoiled (s .core) (s .readout .branches)) where
       (with-csr (s .core) (s .readout .branches) u (w .next) valid)
   by-request Nothing w valid = with-csr (s .core) (s .readout .branches) u (w .next) valid
 
-  csr-keeps-unspoiled : (v : ℕ) → after (csrWrittenOf v)
+  csr-keeps-unspoiled : (v : ℕ) → UnspoiledAfter (csrWrittenOf v) s
   unfolding csrWrittenOf
   csr-keeps-unspoiled v =
       by-request (csr.writtenOf v (s .core .csr) .request) (csr.writtenOf v (s .core .csr))
@@ -147,7 +148,7 @@ zeroed-keeps-assign n x h = by-cond (λ (y : Scalers). isValidAssign (y .assign)
 
 module _ (s : Supervisor) (ofType : OfType s) (u : Unspoiled (s .core) (s .readout .branches)) where
   -- a setting touches neither main, the user sync nor the branches
-  setting-keeps-unspoiled : (r : Setting) (v : ℕ) → isValidSetting r v ≡ true → after s u (settingWrittenOf r v)
+  setting-keeps-unspoiled : (r : Setting) (v : ℕ) → isValidSetting r v ≡ true → UnspoiledAfter (settingWrittenOf r v) s
   unfolding settingWrittenOf
   setting-keeps-unspoiled Control v valid =
       record {
@@ -182,7 +183,7 @@ module _ (s : Supervisor) (ofType : OfType s) (u : Unspoiled (s .core) (s .reado
         branches = u .branches;
       }
 
-  pub write-keeps-unspoiled : (r : Register) (v : ℕ) → isValidValue r v ≡ true → after s u (writtenOf r v)
+  pub write-keeps-unspoiled : (r : Register) (v : ℕ) → isValidValue r v ≡ true → UnspoiledAfter (writtenOf r v) s
   unfolding writtenOf
   write-keeps-unspoiled register.Csr v valid = csr-keeps-unspoiled s u v
   write-keeps-unspoiled (register.Setting r) v valid = setting-keeps-unspoiled r v valid

@@ -5,7 +5,7 @@
 --     isActiveOf, isSpoiledOf   the two rules
 --     tickedOf       the tick: the next record and the answer
 -- The core and the branches meet here alone: two facts one way, the word to load the other.
--- Own rules of 01 used here: none. Decisions: T1, A4. Left out: the declines, in calls.
+-- Own rules of 01 used here: none. Decisions: T1, A4. Left out: the declines, in declines.
 -- Assumes nothing.
 use Prim.Native.Nat.{ℕ}
 use mathlib.Core.Bool.{Bool, not, _&&_, _||_}
