@@ -269,6 +269,15 @@ class Requests(unittest.TestCase):
         self.refused(self.TAGS.format("landed"), lacks[1:], self.P4, self.SPEC)
         self.refused(self.TAGS.format("landed"), ["nothing states [Blind.5]"], self.SPEC, self.EDIT)
 
+    def test_form_of_the_code(self):
+        listed = self.TAGS.format("to come") + "# N3 Split: landed\nSplit.2a\tit shifts\n"
+        edit = {"crates/b/must-fail/unshifted.edit": "# [Split.2a] it does not shift\n"}
+        code = {"crates/b/src/lib.rt": "// [Split.2a] by shifts\npub fn shifted() -> u32 {\n"}
+        page, faults = self.traced(listed, edit, code)
+        self.assertEqual(faults, [])
+        self.assertIn("| Split.2a | it shifts | none: it rules the form of the code | [shifted](../crates/b/src/lib.rt) |", page)
+        self.refused(listed, ["no code cites [Split.2a]"], edit)
+
     def test_headings(self):
         bad = "docs/tags.txt: not a heading: "
         self.refused(self.TAGS.format("soon"), [f"{bad}# N1 Blind: soon"])

@@ -8,8 +8,9 @@ break it.
 
 docs/tags.txt has the tags, each with the sentence in our words and, where no edit can break it, why. Its headings say which
 request of document 02 the tags under them belong to, and whether that has landed or is to come. Refused, with or without
---check: a tag, or a row of docs/DECISIONS.md, that is not there; a ruling sentence that no definition cites; one with neither
-an edit nor a reason; an example that nothing states. A request to come is spared the last three, but no crate may cite it.
+--check: a tag, or a row of docs/DECISIONS.md, that is not there; a ruling sentence that no definition cites, or no code where
+it rules the code's form; one with neither an edit nor a reason; an example that nothing states. A request to come is spared
+the last three, but no crate may cite it.
 
 A tag stands in a comment and speaks of the declaration under it, and of those of the same type that follow it without a
 comment of their own.
@@ -31,6 +32,8 @@ MODIFIERS, IMPORTS = ("unfolding", "module", "#["), ("use ", "ghost use ", "mod 
 
 # sentences that are no rule but an example of one, beside those of Bench and Lab
 WORKED = ("Console.9", "Console.10", "Blind.5", "Table.3", "Table.6b")
+# sentences on the form of the code, which no definition states
+OF_CODE = ("Split.2a",)
 
 HEAD = """# From documents 01 and 02 to the definitions, and back
 
@@ -42,7 +45,7 @@ sentence. Each name leads to its file.
 
 `tools/trace.py` makes this page from the tags in the files and from [tags.txt](tags.txt); `tools/trace.py --check` refuses a
 row that is no longer true, a tag that does not exist, a sentence without a definition or an edit, and a crate that cites a
-request which has not landed.
+request which has not landed. A sentence on the form of the code has no definition, and must have code.
 """
 RULES = """
 | Sentence | In our words | Definition | Code | Laws | Must-fail edits |
@@ -202,8 +205,11 @@ def rule_row(sentences, found, tag):
     """The row of a ruling sentence that has landed, and its faults."""
     edits = cell(found["edit"][tag], 4) or "none: " + sentences.reason[tag]
     definition, code, law = (cell(found[kind][tag], most) for kind, most in (("definition", 5), ("code", 4), ("law", 4)))
-    if not definition:
-        sentences.faults.append(f"no definition cites [{tag}]")
+    needed = "code" if tag in OF_CODE else "definition"
+    if not found[needed][tag]:
+        sentences.faults.append(f"no {needed} cites [{tag}]")
+    if tag in OF_CODE:
+        definition = "none: it rules the form of the code"
     if not found["edit"][tag] and not sentences.reason[tag]:
         sentences.faults.append(f"no edit breaks [{tag}], and docs/tags.txt does not say why")
     return f"| {tag} | {sentences.words[tag]} | {definition} | {code} | {law} | {edits} |\n"
