@@ -7,6 +7,8 @@
 --     put-fits         .. and takes one byte more
 --     all-append       a test passed by two lists is passed by the one followed by the other
 --     all-padded       the bytes above the last one used are zeros: a test that 0 passes need not look at them
+--     shift-is-byte    the code's shift to the right, masked, is a byte of the number
+--     masked-fits      .. and fits in eight bits
 --     shift-is-put     the code's shift to the left puts a byte above n bytes
 --     shift-is-below   the code's two shifts to the right ask whether a number has n bytes
 -- Assumes nothing.
@@ -20,7 +22,7 @@ use native.Mathlib.Nat.{mod-eq-of-lt, div-one, div-eq-of-lt, lt-div-mul-add, div
 use lib.ListN.{length, getD}
 use lib.Dec.{eqb, ltb, lit<}
 use lib.Arith.{digits-lt}
-use lib.Bits.{bitOr, or-shifted-r}
+use lib.Bits.{bitAnd, bitOr, and-mask, mask-lt, or-shifted-r}
 use borrow.Author.Tests.{eq-eqb, ne-eqb, ltb-true, ltb-false}
 use Rattle.bits.specs.Bytes.{byteAt, bytes, allOf}
 use Rattle.bits.proofs.TestLaws.{and-left, and-right, and-both}
@@ -94,7 +96,14 @@ all-padded test (suc n) zero v zeros h below = absurd (omega arith)
 all-padded test (suc n) (suc places) v zeros h below =
     ap (λ (rest : Bool). test (v % 256) && rest) (all-padded test n places (v / 256) zeros (omega arith) (omega arith))
 
--- ---- the shifts of the code
+-- ---- the shifts and masks of the code
+
+-- [Split.2a] [Split.2b] one law for every byte
+pub shift-is-byte : (w b : ℕ) → bitAnd (w / 2 ^ (8 * b)) 255 ≡ byteAt w b
+shift-is-byte w b = rw (power-of-bytes b) (and-mask (w / 256 ^ b) 8)
+
+pub masked-fits : (n : ℕ) → bitAnd n 255 < 2 ^ 8
+masked-fits n = mask-lt n 8
 
 pub shift-is-put : (n w : ℕ) → n < 8 → w < 256 → w * 2 ^ (8 * n) % 2 ^ 64 ≡ w * 256 ^ n
 shift-is-put n w h byte =

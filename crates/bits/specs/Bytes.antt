@@ -5,7 +5,7 @@
 --     bytes n v      the first n bytes of v, by division: the places of a queue
 --     allOf test l   every number of l passes the test
 --     isSameOf a b   two lists have the same numbers, place by place
--- Own rules of 01 used here: none. Decisions: none. Left out: nothing.
+-- Own rules of 01 used here: none. Decisions: B7. Left out: nothing.
 -- Assumes nothing.
 use Prim.Native.Nat.{ℕ, zero, suc, _/_, _%_, _^_}
 use mathlib.Core.Bool.{Bool, true, false, _&&_}
@@ -17,6 +17,7 @@ use Rattle.bits.specs.Bits.{tabulate}
 abbrev pub byteAt : (w b : ℕ) → ℕ
 byteAt w b = w / 256 ^ b % 256
 
+-- [Split.2b] by division, for the reader; the code shifts and masks
 abbrev pub bytesOf : ℕ → List ℕ
 bytesOf w = tabulate 4 (byteAt w)
 

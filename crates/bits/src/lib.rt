@@ -8,6 +8,9 @@ ghost use Rattle.bits.specs.Notation.{if_then_else_};
 ghost use Rattle.bits.specs.Bits.{bitAt, oneIfOf, maskOf, setOf, clearOf, hasOnly};
 ghost use Rattle.bits.specs.Bytes.{bytesOf};
 
+// The lowest eight bits of a word.
+const BYTE: u32 = 0xFF;
+
 // Bit i of a word; a word has no bit 32 or above.
 pub fn bit_at(word: u32, i: u32) -> bool
     ensures { λ r. ⌜ r ≡ bitAt word i ⌝ }
@@ -59,16 +62,16 @@ pub fn has_only(word: u32, mask: u32) -> bool
     word | mask == mask
 }
 
-// [Registers.1] register 10's layout
+// [Registers.1] [Split.2b] register 10's layout, which the acknowledges share
+// [Split.2a] by shifts and masks; no other place takes such a word apart
 pub fn bytes(word: u32) -> [u8; 4]
     ensures { λ r. ⌜ r ≡ bytesOf word ⌝ }
 {
-    [
-        (word / 1 % 256) as u8,
-        (word / 256 % 256) as u8,
-        (word / 65536 % 256) as u8,
-        (word / 16777216 % 256) as u8,
-    ]
+    let branch1 = (word & BYTE) as u8;
+    let branch2 = ((word >> 8) & BYTE) as u8;
+    let branch3 = ((word >> 16) & BYTE) as u8;
+    let branch4 = ((word >> 24) & BYTE) as u8;
+    [branch1, branch2, branch3, branch4]
 }
 
 // A choice without a branch in the code above it.
