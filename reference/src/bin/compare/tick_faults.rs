@@ -78,6 +78,31 @@ const TICK_FAULTS: &[Fault] = &[
         "self.used > 0 || load.is_some()",
     ),
     fault(
+        "the acknowledges of branches 2 and 3 are exchanged",
+        "acknowledges.to_le_bytes()",
+        "{ let [one, two, three, four] = acknowledges.to_le_bytes(); [one, three, two, four] }",
+    ),
+    fault(
+        "the acknowledges lie from the high end",
+        "acknowledges.to_le_bytes()",
+        "acknowledges.to_be_bytes()",
+    ),
+    fault(
+        "the acknowledge of controller 7 is not heard",
+        "acknowledges.to_le_bytes()",
+        "(acknowledges & 0x7F7F_7F7F).to_le_bytes()",
+    ),
+    fault(
+        "the acknowledges of branch 2 start at bit 4",
+        "acknowledges.to_le_bytes()",
+        "{ let [one, _, three, four] = acknowledges.to_le_bytes(); [one, (acknowledges >> 4) as u8, three, four] }",
+    ),
+    fault(
+        "ROC enable lies from the high end",
+        "self.roc_enable.to_le_bytes()",
+        "self.roc_enable.to_be_bytes()",
+    ),
+    fault(
         "a word is finished with one acknowledge of several",
         "high == enabled",
         "high != 0 || enabled == 0",
