@@ -22,7 +22,7 @@ use native.Mathlib.Nat.{mod-eq-of-lt, div-one, div-eq-of-lt, lt-div-mul-add, div
 use lib.ListN.{length, getD}
 use lib.Dec.{eqb, ltb, lit<}
 use lib.Arith.{digits-lt}
-use lib.Bits.{bitAnd, bitOr, and-mask, mask-lt, or-shifted-r}
+use lib.Bits.{bitAnd, bitOr, and-mask, and-le-r, or-shifted-r}
 use borrow.Author.Tests.{eq-eqb, ne-eqb, ltb-true, ltb-false}
 use Rattle.bits.specs.Bytes.{byteAt, bytes, allOf}
 use Rattle.bits.proofs.TestLaws.{and-left, and-right, and-both}
@@ -102,8 +102,9 @@ all-padded test (suc n) (suc places) v zeros h below =
 pub shift-is-byte : (w b : ℕ) → bitAnd (w / 2 ^ (8 * b)) 255 ≡ byteAt w b
 shift-is-byte w b = rw (power-of-bytes b) (and-mask (w / 256 ^ b) 8)
 
-pub masked-fits : (n : ℕ) → bitAnd n 255 < 2 ^ 8
-masked-fits n = mask-lt n 8
+-- whatever the mask, so that a narrower one is refused for its bytes and not for its cast
+pub masked-fits : (n mask : ℕ) → mask < 256 → bitAnd n mask < 256
+masked-fits n mask h = omega (arith, and-le-r n mask)
 
 pub shift-is-put : (n w : ℕ) → n < 8 → w < 256 → w * 2 ^ (8 * n) % 2 ^ 64 ≡ w * 256 ^ n
 shift-is-put n w h byte =
