@@ -272,9 +272,11 @@ class Requests(unittest.TestCase):
     def test_form_of_the_code(self):
         listed = self.TAGS.format("to come") + "# N3 Split: landed\nSplit.2a\tit shifts\n"
         edit = {"crates/b/must-fail/unshifted.edit": "# [Split.2a] it does not shift\n"}
-        code = {"crates/b/src/lib.rt": "// [Split.2a] by shifts\npub fn shifted() -> u32 {\n"}
+        form = "// [Split.2a] by shifts\npub fn shifted(w: u32) -> u32\n    ensures {{ r }}\n{{\n    w {} 8 // 1/2\n}}\n"
+        code, divided = ({"crates/b/src/lib.rt": form.format(sign)} for sign in (">>", "/"))
         page, faults = self.traced(listed, edit, code)
         self.assertEqual(faults, [])
+        self.refused(listed, ["crates/b/src/lib.rt: shifted has one of /%, which [Split.2a] rules out"], edit, divided)
         self.assertIn("| Split.2a | it shifts | none: it rules the form of the code | [shifted](../crates/b/src/lib.rt) |", page)
         self.refused(listed, ["no code cites [Split.2a]"], edit)
 

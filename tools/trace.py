@@ -9,8 +9,8 @@ break it.
 docs/tags.txt has the tags, each with the sentence in our words and, where no edit can break it, why. Its headings say which
 request of document 02 the tags under them belong to, and whether that has landed or is to come. Refused, with or without
 --check: a tag, or a row of docs/DECISIONS.md, that is not there; a ruling sentence that no definition cites, or no code where
-it rules the code's form; one with neither an edit nor a reason; an example that nothing states. A request to come is spared
-the last three, but no crate may cite it.
+it rules the code's form; a function that cites such a sentence and has what it rules out; a ruling sentence with neither an
+edit nor a reason; an example that nothing states. A request to come is spared all but the first, but no crate may cite it.
 
 A tag stands in a comment and speaks of the declaration under it, and of those of the same type that follow it without a
 comment of their own.
@@ -32,8 +32,9 @@ MODIFIERS, IMPORTS = ("unfolding", "module", "#["), ("use ", "ghost use ", "mod 
 
 # sentences that are no rule but an example of one, beside those of Bench and Lab
 WORKED = ("Console.9", "Console.10", "Blind.5", "Table.3", "Table.6b")
-# sentences on the form of the code, which no definition states
-OF_CODE = ("Split.2a",)
+# sentences on the form of the code, which no definition states, with what a function that cites one may not have
+OF_CODE = {"Split.2a": "/%"}
+FUNCTION = re.compile(r"(?m)((?:^ *//.*\n)+)^( *)(?:pub )?fn (\w+).*\n(?:.*\n)*?\2\{\n((?:.*\n)*?)\2\}\n")
 
 HEAD = """# From documents 01 and 02 to the definitions, and back
 
@@ -45,7 +46,8 @@ sentence. Each name leads to its file.
 
 `tools/trace.py` makes this page from the tags in the files and from [tags.txt](tags.txt); `tools/trace.py --check` refuses a
 row that is no longer true, a tag that does not exist, a sentence without a definition or an edit, and a crate that cites a
-request which has not landed. A sentence on the form of the code has no definition, and must have code.
+request which has not landed. A sentence on the form of the code has no definition, and must have code; that this code has
+nothing that the sentence rules out is checked too.
 """
 RULES = """
 | Sentence | In our words | Definition | Code | Laws | Must-fail edits |
@@ -156,6 +158,14 @@ def declarations(lines, mark, pattern):
                 names = None
 
 
+def misformed(text, where):
+    """The functions that have what a sentence on their form, which they cite, rules out; comments do not count."""
+    for comment, _, name, body in FUNCTION.findall(text):
+        for tag, ruled_out in OF_CODE.items():
+            if f"[{tag}]" in comment and set(ruled_out) & set(re.sub(r"//.*", "", body)):
+                yield f"{where}: {name} has one of {ruled_out}, which [{tag}] rules out"
+
+
 def link(names, where):
     """One link for the declarations under one comment."""
     shown = names[0] if len(names) == 1 else f"{names[0]}{', ' if len(names) == 2 else ' … '}{names[-1]}"
@@ -182,6 +192,8 @@ def gather(sentences):
             text = read(path)
             sentences.built(text, where)
             sentences.see_rows(text, where)
+            if kind == "code":
+                sentences.faults += misformed(text, where)
             for comment, names in declarations(text.splitlines(), mark, name):
                 for tag in sentences.cited(comment, where):
                     found[kind][tag].append(link(names, where))
