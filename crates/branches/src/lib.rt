@@ -157,6 +157,21 @@ impl Readout {
         b0.is_quiet() & (b1.is_quiet() & (b2.is_quiet() & (b3.is_quiet() & true)))
     }
 
+    // The same readout, its branches field by field.
+    pub fn rebuilt(self) -> Readout
+        ensures { λ r. ⌜ r ≡ self ⌝ }
+    {
+        let bs = self.branches;
+        let b0 = bs[0];
+        let b1 = bs[1];
+        let b2 = bs[2];
+        let b3 = bs[3];
+        Readout {
+            branches: [rebuilt(b0), rebuilt(b1), rebuilt(b2), rebuilt(b3)],
+            roc: self.roc,
+        }
+    }
+
     // Nothing moves: every branch is quiet and nothing is loaded.
     fn silent(self) -> ReadoutStep
         ensures { λ r. ⌜ r ≡ silentOf self ⌝ }
@@ -165,17 +180,8 @@ impl Readout {
             finished: Slot::Nothing,
             shown: Slot::Nothing,
         };
-        let bs = self.branches;
-        let b0 = bs[0];
-        let b1 = bs[1];
-        let b2 = bs[2];
-        let b3 = bs[3];
-        let next = Readout {
-            branches: [rebuilt(b0), rebuilt(b1), rebuilt(b2), rebuilt(b3)],
-            roc: self.roc,
-        };
         ReadoutStep {
-            next,
+            next: self.rebuilt(),
             sides: [none, none, none, none],
         }
     }
