@@ -2,11 +2,12 @@
 --     step-is-event-step        it accepts an event, loads a tag or lets main go on (CoreEvents says what follows)
 --     counted-is-in-one-mask    each counted pulse is in exactly one mask
 --     step-keeps-pass-count     how many of an input's pulses have passed, by the masks
+--     fast-reset-blinds, blind-tick-loses-all, reset-ends-blind-time   the blind time after a rejected pattern
 --     step-keeps-lengths, step-keeps-factors, step-keeps-control
 --     step-loads-six-bits       the word that it loads has six bits
 --     step-loads-below-eight    it loads one only where no queue may hold eight words
 -- Assumes nothing.
-use Prim.Native.Nat.{ℕ, _+_, _<_}
+use Prim.Native.Nat.{ℕ, suc, _+_, _<_}
 use mathlib.Core.Path.{_≡_, refl, sym, ap, _∙_}
 use mathlib.Core.Bool.{Bool, true, false, not, _&&_}
 use mathlib.Core.List.{List}
@@ -34,16 +35,19 @@ use Rattle.sequencer.proofs.MainLaws.{step-loads-in-order}
 use Rattle.scalers.specs.Scalers.{isSome}
 use Rattle.trigger.specs.Lines.{hasStrobe}
 use Rattle.trigger.specs.Latch.{wordAtOf}
+use Rattle.trigger.specs.BlindTime.{blindTicks, LosesAll}
 use Rattle.trigger.specs.Effects.{outcomeOf}
 use Rattle.trigger.specs.declared.lines.Inputs.{Inputs}
 use Rattle.trigger.specs.declared.latch.Latch.{Latch}
 use Rattle.trigger.proofs.LatchLaws.{latch-is-one, accepted-is-ready}
-use Rattle.core.specs.Core.{isRunning, pulsedOf, isReadyOf, latchedOf}
+use Rattle.trigger.proofs.BlindTimeLaws.{rejected-starts-count, blind-is-not-over, count-falls, unready-loses-all}
+use Rattle.core.specs.Core.{resetOf, isRunning, pulsedOf, isReadyOf, latchedOf}
 use Rattle.core.specs.Core.{cycleStepOf, mainStepOf, userStepOf, settledOf, stepOf}
 use Rattle.core.specs.Core.{allowsEightOf, isSoundOf}
 use Rattle.core.specs.declared.Core.{Core}
 use Rattle.core.proofs.CoreEvents.{EventStep, accepts, tags, goesOn}
-use Rattle.core.proofs.CoreParts.{idle-is-named, ready-is-idle, ready-wants-no-sync, accepted-is-undecided}
+use Rattle.core.proofs.CoreParts.{idle-is-named, ready-is-idle, ready-wants-no-sync, blind-is-not-ready}
+use Rattle.core.proofs.CoreParts.{accepted-is-undecided}
 use Rattle.core.proofs.CoreParts.{idle-cycle-is-quiet, cycle-decides-event, main-loads-six-bits}
 use Rattle.core.proofs.CoreParts.{tag-is-wanted, tag-is-at-idle}
 use Rattle.core.proofs.CoreParts.{isLoad, tag-loads-below-eight, event-loads-below-eight}
@@ -151,6 +155,24 @@ module _ (room empty : Bool) (x : Inputs) (memory : List ℕ) (c : Core) where
   unfolding stepOf settledOf
   step-keeps-control = refl
 
+  -- ---- the blind time
+
+  -- [Blind.2] a rejected pattern starts it
+  pub fast-reset-blinds : isSome (stepOf room empty x memory c .masks .rejected) ≡ true
+      → stepOf room empty x memory c .next .blind .count ≡ blindTicks
+  unfolding stepOf settledOf
+  fast-reset-blinds = rejected-starts-count (c .blind) (latch .rejected)
+
+  -- [Blind.2] [Blind.4] while it lasts, what passes is lost, and the count falls
+  pub blind-tick-loses-all : (k : ℕ) → c .blind .count ≡ suc k
+      → LosesAll (pulsedOf x c .passed) (stepOf room empty x memory c .masks)
+      × (stepOf room empty x memory c .next .blind .count ≡ k)
+  unfolding stepOf settledOf
+  blind-tick-loses-all k h =
+      let unready = blind-is-not-ready (x .lines) c (blind-is-not-over (c .blind) k h) in
+      let all = unready-loses-all (isReadyOf (x .lines) c) (isOkWord word) (pulsedOf x c) unready in
+      (all, count-falls (c .blind) k h (latch .rejected) (all .rejected))
+
   -- ---- the word that it loads
 
   -- [Main.9] [Usersync.1]
@@ -168,3 +190,8 @@ module _ (room empty : Bool) (x : Inputs) (memory : List ℕ) (c : Core) where
       by-cond (λ (o : Outcome). isLoad o ≡ true → allowsEightOf c ≡ false) (userStepOf empty c .tag)
       (λ e h. tag-loads-below-eight empty c e)
       (λ e h. event-loads-below-eight room empty (x .lines) c latch word sound h)
+
+-- [Blind.3]
+pub reset-ends-blind-time : (c : Core) → resetOf c .blind .count ≡ 0
+unfolding resetOf
+reset-ends-blind-time c = refl

@@ -1,7 +1,7 @@
 -- Laws of the parts of a tick of the core: the ready rule, main, the user sync. Each is over its part alone; CoreLaws puts
 -- them together.
 --     idle-is-named                            the test of Idle is the state
---     ready-is-idle, ready-wants-no-sync       what the ready rule gives
+--     ready-is-idle, ready-wants-no-sync, blind-is-not-ready   the ready rule
 --     accepted-is-undecided, idle-cycle-is-quiet, cycle-decides-event   main: the accept, Idle, a cycle
 --     main-has-no-tag, main-loads-below-eight, main-at-idle-loads-nothing, main-loads-six-bits
 --     tag-waits-not, tag-is-wanted, tag-is-at-idle   where the user sync loads a tag
@@ -17,7 +17,7 @@ use lib.Dec.{eqb, leb, lit<}
 use borrow.Author.Tests.{not-true}
 use Rattle.bits.specs.Bits.{oneIfOf}
 use Rattle.bits.specs.Bytes.{allOf}
-use Rattle.bits.proofs.TestLaws.{and-left, and-right, implied, all-true-at, all-true-right, by-cond}
+use Rattle.bits.proofs.TestLaws.{and-left, and-right, and-fails, implied, all-true-at, all-true-right, by-cond}
 use Rattle.registers.specs.Csr as csr
 use Rattle.sync.proofs.SyncLaws.{user-tag-exactly}
 use Rattle.sequencer.specs.MemoryWord.{classInOf}
@@ -35,9 +35,11 @@ use Rattle.sequencer.proofs.MainLaws.{idle-stays, idle-does-not-age, aged-keeps
 use Rattle.sequencer.proofs.MainLaws.{step-loads-in-order}
 use Rattle.sequencer.proofs.MainLaws as sequencer
 use Rattle.scalers.specs.Scalers.{isSome}
+use Rattle.trigger.specs.Lines.{hasFrontBusy}
+use Rattle.trigger.specs.BlindTime.{isOver}
 use Rattle.trigger.specs.declared.lines.Lines.{Lines}
 use Rattle.trigger.specs.declared.latch.Latch.{Latch}
-use Rattle.core.specs.Core.{isReadyOf, isOpenOf}
+use Rattle.core.specs.Core.{isUninhibited, isReadyOf, isOpenOf}
 use Rattle.core.specs.Core.{testsOf, cycleStepOf, mainStepOf, userStepOf}
 use Rattle.core.specs.Core.{allowsEightOf, bankClauses, registerClauses, sequencerClauses, isSoundOf}
 use Rattle.core.specs.declared.Core.{Core}
@@ -67,6 +69,15 @@ module _ (l : Lines) (c : Core) (ready : isReadyOf l c ≡ true) where
       not-true (csr.wantsUserSync (c .csr))
       (and-left (not (csr.wantsUserSync (c .csr))) _
       (and-right (csr.isGo (c .csr)) _ (and-right (isIdle (c .main .state)) (isOpenOf l c) ready)))
+
+-- [Blind.2] whatever else holds
+pub blind-is-not-ready : (l : Lines) (c : Core) → isOver (c .blind) ≡ false → isReadyOf l c ≡ false
+blind-is-not-ready l c h =
+    and-fails (isIdle (c .main .state))
+    (and-fails (csr.isGo (c .csr))
+    (and-fails (not (csr.wantsUserSync (c .csr)))
+    (and-fails (not (c .user .waiting))
+    (and-fails (not (hasFrontBusy l)) (and-fails (isUninhibited l (c .csr)) h)))))
 
 -- ---- main: in a cycle, at Idle, and where a pattern is accepted
 

@@ -1,6 +1,6 @@
 -- The core: all of the record but the branches, which it sees through two facts. A tick of it: pulses, ready, main and user
 -- sync; the latch, and what their moves change besides, are in trigger.
---     document 01    "The tick"; "When a call is declined", Spoiled; Active
+--     document 01    "The tick"; "When a call is declined", Spoiled; Active; document 02, N1
 --     isReadyOf      the ready rule
 --     mainStepOf, userStepOf   what main and the user sync do
 --     settledOf, stepOf   the core after all of them, with what the tick reports; a tick of the core
@@ -34,11 +34,12 @@ use Rattle.sequencer.specs.declared.main_sequencer.MainStep.{MainStep}
 use Rattle.scalers.specs.Scalers as scalers
 use Rattle.trigger.specs.Lines.{hasStrobe, hasPass2, hasFail2, hasPass3, hasFail3, hasFrontBusy, hasInhibit}
 use Rattle.trigger.specs.Latch.{wordAtOf, latchOf, masksOf}
+use Rattle.trigger.specs.BlindTime as blind
 use Rattle.trigger.specs.Effects.{csrAfterOf, syncAfterOf, outcomeOf, signalsOf}
 use Rattle.trigger.specs.declared.lines.Lines.{Lines}
 use Rattle.trigger.specs.declared.lines.Inputs.{Inputs}
 use Rattle.trigger.specs.declared.latch.Latch.{Latch}
-use Rattle.core.specs.CoreFields.{withPrescalers, withScalers, withMain, withSync, withUser}
+use Rattle.core.specs.CoreFields.{withPrescalers, withScalers, withMain, withSync, withBlind, withUser}
 use Rattle.core.specs.declared.Core.{Core}
 use Rattle.core.specs.declared.CoreStep.{CoreStep}
 
@@ -55,15 +56,16 @@ freshOf =
       main = main.idleOf;
       timers = timers.freshOf;
       sync = counter.freshOf;
+      blind = blind.freshOf;
       user = user.freshOf;
     }
 
 -- [CSRWrite.2d] the sequencers idle, scalers and sync count 0, every prescale counter loaded; the CSR's own bits are
--- cleared by the write
+-- cleared by the write; [Blind.3] the blind count 0
 unfoldable pub resetOf : Core → Core
 resetOf c =
     c ▷ withPrescalers (prescaler.reloadedOf (c .prescalers)) ▷ withScalers (scalers.resetOf (c .scalers))
-    ▷ withMain main.idleOf ▷ withSync (counter.zeroedOf (c .sync)) ▷ withUser user.freshOf
+    ▷ withMain main.idleOf ▷ withSync (counter.zeroedOf (c .sync)) ▷ withBlind blind.freshOf ▷ withUser user.freshOf
 
 -- ---- pulses
 
@@ -81,11 +83,14 @@ pulsedOf x c =
 abbrev pub isUninhibited : Lines → Csr → Bool
 isUninhibited l w = not (hasInhibit l) || csr.overridesInhibit w
 
--- [Ready.1] the rule but for main at Idle
+-- [Ready.1] [Blind.2] the rule but for main at Idle
 abbrev pub isOpenOf : Lines → Core → Bool
 isOpenOf l c =
     csr.isGo (c .csr)
-    && (not (csr.wantsUserSync (c .csr)) && (not (c .user .waiting) && (not (hasFrontBusy l) && isUninhibited l (c .csr))))
+    && (not (csr.wantsUserSync (c .csr))
+    && (not (c .user .waiting)
+    && (not (hasFrontBusy l)
+    && (isUninhibited l (c .csr) && blind.isOver (c .blind)))))
 
 -- [Ready.1]
 abbrev pub isReadyOf : Lines → Core → Bool
@@ -139,6 +144,7 @@ settledOf l p latch m u c =
         main = m .next;
         timers = c .timers;
         sync = syncAfterOf (csr.enablesSync (c .csr)) m u (c .sync);
+        blind = blind.afterOf (latch .rejected) (c .blind);
         user = u .next;
       };
       masks = masksOf p latch;
@@ -189,12 +195,14 @@ abbrev pub registerClauses : Core → List Bool
 registerClauses c =
     csr.isValidStoredCsr (c .csr) ∷ isValidControl (c .control .word) ∷ isValidAssign (c .scalers .assign) ∷ []
 
--- [Spoiled.1b] [Spoiled.1c] [Spoiled.1i] main; [Spoiled.1h] the sync count; [Spoiled.1k] the user sync
+-- [Spoiled.1b] [Spoiled.1c] [Spoiled.1i] main; [Spoiled.1h] the sync count; [Spoiled.1k] the user sync; [Blind.3] the
+-- blind count
 abbrev pub sequencerClauses : Core → List Bool
 sequencerClauses c =
     main.isWellFormedOf (c .main)
     ∷ counter.isWithin (c .sync)
     ∷ (not (c .user .waiting) || isIdle (c .main .state))
+    ∷ blind.isWithin (c .blind)
     ∷ []
 
 unfoldable pub isSoundOf : Core → Bool

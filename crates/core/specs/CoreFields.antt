@@ -1,4 +1,4 @@
--- Changes of one field of the core. Nothing of document 01 is decided here.
+-- Changes of one field of the core. Nothing of the documents is decided here.
 --     withCsr v c   c with the CSR v; and so on, one for each field that a call changes by itself
 -- Assumes nothing.
 use Rattle.registers.specs.declared.csr.Csr.{Csr}
@@ -9,28 +9,32 @@ use Rattle.sync.specs.declared.counter.SyncCounter.{SyncCounter}
 use Rattle.sync.specs.declared.user.UserSync.{UserSync}
 use Rattle.sequencer.specs.declared.main_sequencer.MainSequencer.{MainSequencer}
 use Rattle.scalers.specs.declared.Scalers.{Scalers}
+use Rattle.trigger.specs.declared.blind.BlindTime.{BlindTime}
 use Rattle.core.specs.declared.Core.{Core}
 
 abbrev pub withPrescalers : Prescalers → Core → Core
-withPrescalers v c = record { prescalers = v; csr = c .csr; control = c .control; scalers = c .scalers; main = c .main; timers = c .timers; sync = c .sync; user = c .user }
+withPrescalers v c = record { prescalers = v; csr = c .csr; control = c .control; scalers = c .scalers; main = c .main; timers = c .timers; sync = c .sync; blind = c .blind; user = c .user }
 
 abbrev pub withCsr : Csr → Core → Core
-withCsr v c = record { prescalers = c .prescalers; csr = v; control = c .control; scalers = c .scalers; main = c .main; timers = c .timers; sync = c .sync; user = c .user }
+withCsr v c = record { prescalers = c .prescalers; csr = v; control = c .control; scalers = c .scalers; main = c .main; timers = c .timers; sync = c .sync; blind = c .blind; user = c .user }
 
 abbrev pub withControl : Control → Core → Core
-withControl v c = record { prescalers = c .prescalers; csr = c .csr; control = v; scalers = c .scalers; main = c .main; timers = c .timers; sync = c .sync; user = c .user }
+withControl v c = record { prescalers = c .prescalers; csr = c .csr; control = v; scalers = c .scalers; main = c .main; timers = c .timers; sync = c .sync; blind = c .blind; user = c .user }
 
 abbrev pub withScalers : Scalers → Core → Core
-withScalers v c = record { prescalers = c .prescalers; csr = c .csr; control = c .control; scalers = v; main = c .main; timers = c .timers; sync = c .sync; user = c .user }
+withScalers v c = record { prescalers = c .prescalers; csr = c .csr; control = c .control; scalers = v; main = c .main; timers = c .timers; sync = c .sync; blind = c .blind; user = c .user }
 
 abbrev pub withTimers : Timers → Core → Core
-withTimers v c = record { prescalers = c .prescalers; csr = c .csr; control = c .control; scalers = c .scalers; main = c .main; timers = v; sync = c .sync; user = c .user }
+withTimers v c = record { prescalers = c .prescalers; csr = c .csr; control = c .control; scalers = c .scalers; main = c .main; timers = v; sync = c .sync; blind = c .blind; user = c .user }
 
 abbrev pub withSync : SyncCounter → Core → Core
-withSync v c = record { prescalers = c .prescalers; csr = c .csr; control = c .control; scalers = c .scalers; main = c .main; timers = c .timers; sync = v; user = c .user }
+withSync v c = record { prescalers = c .prescalers; csr = c .csr; control = c .control; scalers = c .scalers; main = c .main; timers = c .timers; sync = v; blind = c .blind; user = c .user }
+
+abbrev pub withBlind : BlindTime → Core → Core
+withBlind v c = record { prescalers = c .prescalers; csr = c .csr; control = c .control; scalers = c .scalers; main = c .main; timers = c .timers; sync = c .sync; blind = v; user = c .user }
 
 abbrev pub withMain : MainSequencer → Core → Core
-withMain v c = record { prescalers = c .prescalers; csr = c .csr; control = c .control; scalers = c .scalers; main = v; timers = c .timers; sync = c .sync; user = c .user }
+withMain v c = record { prescalers = c .prescalers; csr = c .csr; control = c .control; scalers = c .scalers; main = v; timers = c .timers; sync = c .sync; blind = c .blind; user = c .user }
 
 abbrev pub withUser : UserSync → Core → Core
-withUser v c = record { prescalers = c .prescalers; csr = c .csr; control = c .control; scalers = c .scalers; main = c .main; timers = c .timers; sync = c .sync; user = v }
+withUser v c = record { prescalers = c .prescalers; csr = c .csr; control = c .control; scalers = c .scalers; main = c .main; timers = c .timers; sync = c .sync; blind = c .blind; user = v }

@@ -19,6 +19,7 @@ use sync::counter::SyncCounter;
 use sync::user::UserStep;
 use sync::user::UserSync;
 use timers::Timers;
+use trigger::blind::BlindTime;
 use trigger::effects::csr_after;
 use trigger::effects::outcome_of;
 use trigger::effects::signals_of;
@@ -43,6 +44,7 @@ pub struct Core {
     pub timers: Timers,
     // register 11 and the sync count
     pub sync: SyncCounter,
+    pub blind: BlindTime,
     pub user: UserSync,
 }
 
@@ -65,6 +67,7 @@ impl Core {
             main: MainSequencer::idle(),
             timers: Timers::fresh(),
             sync: SyncCounter::fresh(),
+            blind: BlindTime::fresh(),
             user: UserSync::fresh(),
         }
     }
@@ -84,6 +87,7 @@ impl Core {
             main: MainSequencer::idle(),
             timers,
             sync: self.sync.zeroed(),
+            blind: BlindTime::fresh(),
             user: UserSync::fresh(),
         }
     }
@@ -100,7 +104,7 @@ impl Core {
         prescalers.step(runs, control.counted(x.triggers, lines.has_strobe()))
     }
 
-    // [Ready.1] the ready rule but for main at Idle
+    // [Ready.1] [Blind.2] the ready rule but for main at Idle
     fn is_open(self, lines: Lines) -> bool
         ensures { λ r. ⌜ r ≡ isOpenOf lines self ⌝ }
     {
@@ -108,7 +112,9 @@ impl Core {
         let user = self.user;
         let uninhibited = !lines.has_inhibit() | csr.overrides_inhibit();
         csr.is_go()
-            & (!csr.wants_user_sync() & (!user.waiting & (!lines.has_front_busy() & uninhibited)))
+            & (!csr.wants_user_sync()
+                & (!user.waiting
+                    & (!lines.has_front_busy() & (uninhibited & self.blind.is_over()))))
     }
 
     // [Main.6] [Main.7] [Main.8] [Main.10] [Main.13] [Main.14] [Main.15] the tests of main, at the risen age
@@ -154,6 +160,7 @@ impl Core {
             main,
             timers,
             sync: sync_after(self.sync, csr.enables_sync(), m, u),
+            blind: self.blind.after(latch.rejected),
             user,
         };
         CoreStep {
@@ -239,7 +246,7 @@ impl Core {
         state.is_loaded() | user.waiting
     }
 
-    // [Spoiled.1a] [Spoiled.1e] [Spoiled.1h] [Spoiled.1k] and main's, in the order of the definition
+    // [Spoiled.1a] [Spoiled.1e] [Spoiled.1h] [Spoiled.1k] [Blind.3] and main's, in the order of the definition
     pub fn is_sound(self) -> bool
         ensures { λ r. ⌜ r ≡ isSoundOf self ⌝ }
     {
@@ -258,7 +265,10 @@ impl Core {
         let sequencer = main.is_well_formed();
         let count = sync.is_within();
         let waits = !user.waiting | state.is_idle();
+        let blind = self.blind.is_within();
         counters
-            & (factors & (stored & (enables & (assign & (sequencer & (count & (waits & true)))))))
+            & (factors
+                & (stored
+                    & (enables & (assign & (sequencer & (count & (waits & (blind & true))))))))
     }
 }

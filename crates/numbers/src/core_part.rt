@@ -24,6 +24,7 @@ use sync::user::UserSync;
 use timers::Count20;
 use timers::Count40;
 use timers::Timers;
+use trigger::blind::BlindTime;
 
 pub fn core_in(numbers: &[u64]) -> Core {
     let csr = Csr {
@@ -35,6 +36,9 @@ pub fn core_in(numbers: &[u64]) -> Core {
     let user = UserSync {
         waiting: bool_at(numbers, 37),
     };
+    let blind = BlindTime {
+        count: byte_at(numbers, 50),
+    };
     Core {
         prescalers: prescalers_in(numbers),
         csr,
@@ -43,6 +47,7 @@ pub fn core_in(numbers: &[u64]) -> Core {
         main: main_in(numbers),
         timers: timers_in(numbers),
         sync: sync_in(numbers),
+        blind,
         user,
     }
 }
@@ -66,6 +71,7 @@ fn put_single(out: &mut [u64], core: Core) {
     put(out, 0, wide(core.csr.word));
     put(out, 1, wide(core.control.word));
     put(out, 37, wide_bool(core.user.waiting));
+    put(out, 50, wide8(core.blind.count));
 }
 
 // ---- the prescalers: 2–9, 20–27

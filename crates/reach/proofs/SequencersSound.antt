@@ -1,4 +1,4 @@
--- The sequencers of a record that is not spoiled: main, the sync count and the user sync.
+-- The sequencers of a record that is not spoiled: main, the sync count, the user sync and the blind time.
 --     SoundSequencers         the clauses on them, as facts over just the fields that they read
 --     sequencers-from-test, sequencers-to-test   the clauses and the facts say the same
 --     tick-keeps-sequencers   a tick of the core
@@ -28,10 +28,13 @@ use Rattle.sequencer.specs.declared.main_sequencer.MainSequencer.{MainSequencer
 use Rattle.sequencer.specs.declared.main_sequencer.MainStep.{MainStep}
 use Rattle.scalers.specs.Scalers as scalers
 use Rattle.trigger.specs.Latch.{wordAtOf}
+use Rattle.trigger.specs.BlindTime as blind
 use Rattle.trigger.specs.Effects.{syncAfterOf}
+use Rattle.trigger.specs.declared.blind.BlindTime.{BlindTime}
 use Rattle.trigger.specs.declared.lines.Inputs.{Inputs}
 use Rattle.trigger.specs.declared.latch.Latch.{Latch}
 use Rattle.trigger.proofs.LatchLaws.{accepted-is-ready}
+use Rattle.trigger.proofs.BlindTimeLaws.{after-keeps-within}
 use Rattle.core.specs.Core.{pulsedOf, isReadyOf, latchedOf, sequencerClauses}
 use Rattle.core.specs.Core.{cycleStepOf, mainStepOf, userStepOf, settledOf, stepOf}
 use Rattle.core.proofs.CoreParts.{idle-cycle-is-quiet}
@@ -39,24 +42,27 @@ use Rattle.core.specs.declared.Core.{Core}
 
 -- ---- the facts
 
-pub record SequencersAre (m : MainSequencer) (count : ℕ) (waiting : Bool) : Type 0 where
+pub record SequencersAre (m : MainSequencer) (count : ℕ) (waiting : Bool) (b : BlindTime) : Type 0 where
   -- [Spoiled.1b] [Spoiled.1c] [Spoiled.1i]
   pub main : WellFormedMain m
   -- [Spoiled.1h]
   pub within : leb count counter.countLimit ≡ true
   -- [Spoiled.1k]
   pub waits : waiting ≡ true → isIdle (m .state) ≡ true
+  -- [Blind.3]
+  pub blind : blind.isWithin b ≡ true
 
 abbrev pub SoundSequencers : Core → Type 0
-SoundSequencers c = SequencersAre (c .main) (c .sync .count) (c .user .waiting)
+SoundSequencers c = SequencersAre (c .main) (c .sync .count) (c .user .waiting) (c .blind)
 
 pub sequencers-from-test : (c : Core) → allTrue (sequencerClauses c) ≡ true → SoundSequencers c
 sequencers-from-test c h =
-    let clause : (i : ℕ) → i < 3 → _ = all-true-at (sequencerClauses c) h in
+    let clause : (i : ℕ) → i < 4 → _ = all-true-at (sequencerClauses c) h in
     record {
       main = sequencer.well-formed-from-test (c .main) (clause 0 (lit< tt));
       within = clause 1 (lit< tt);
       waits = implied (c .user .waiting) (isIdle (c .main .state)) (clause 2 (lit< tt));
+      blind = clause 3 (lit< tt);
     }
 
 pub sequencers-to-test : (c : Core) → SoundSequencers c → allTrue (sequencerClauses c) ≡ true
@@ -65,6 +71,7 @@ sequencers-to-test c h =
       sequencer.well-formed-to-test (c .main) (h .main),
       h .within,
       implies (c .user .waiting) (isIdle (c .main .state)) (h .waits),
+      h .blind,
     )
 
 -- ---- the parts of a tick
@@ -157,8 +164,15 @@ module _ (room empty : Bool) (x : Inputs) (memory : List ℕ) (c : Core) (h : So
         main = main-keeps-well-formed room empty x memory c (h .main);
         within = sync-keeps-within (csr.enablesSync (c .csr)) _ _ (c .sync) interval (h .within);
         waits = waits-at-idle;
+        blind = after-keeps-within (c .blind) (latch .rejected) (h .blind);
       }
 
--- [CSRWrite.2d] [Registers.4] main at Idle, no count, no user sync
-pub idle-is-sound : SequencersAre main.idleOf 0 false
-idle-is-sound = record { main = sequencer.idle-is-well-formed; within = refl; waits = λ e. absurd (false≢true e) }
+-- [CSRWrite.2d] [Registers.4] [Blind.3] main at Idle, no count, no user sync, not blind
+pub idle-is-sound : SequencersAre main.idleOf 0 false blind.freshOf
+idle-is-sound =
+    record {
+      main = sequencer.idle-is-well-formed;
+      within = refl;
+      waits = λ e. absurd (false≢true e);
+      blind = refl;
+    }

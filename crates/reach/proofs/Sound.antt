@@ -5,14 +5,16 @@
 --     Unspoiled               the four, of a core and a list of branches
 --     unspoiled-from-test, unspoiled-to-test   the spoiled rule and the facts say the same
 --     sound-test, branches-test   what the laws of the core and of the branches ask
+--     blind-above-2-is-spoiled    a blind count out of its bound
 -- Assumes nothing.
 use Prim.Native.Nat.{ℕ, _<_}
 use mathlib.Core.Path.{_≡_, refl}
 use mathlib.Core.Bool.{Bool, true, false, _&&_, _||_}
 use mathlib.Core.List.{List, _++_}
+use native.Mathlib.Omega.{arith}
 use lib.Dec.{lit<}
 use lib.ListN.{length}
-use borrow.Author.Tests.{not-false}
+use borrow.Author.Tests.{not-false, leb-true}
 use Rattle.bits.proofs.TestLaws.{and-left, and-right, and-both, every-at, at-every, or-rest}
 use Rattle.bits.proofs.TestLaws.{all-true-at, all-true-left, all-true-right, all-true-both}
 use Rattle.registers.specs.Csr as csr
@@ -26,6 +28,7 @@ use Rattle.branch.proofs.BranchLaws.{well-formed-from-test, well-formed-to-test
 use Rattle.branch.specs.declared.Branch.{Branch}
 use Rattle.branches.specs.ReadoutFields.{branchAt}
 use Rattle.branches.specs.Readout as readout
+use Rattle.trigger.specs.BlindTime.{blindTicks}
 use Rattle.core.specs.Core.{bankClauses, registerClauses, sequencerClauses, isSoundOf, allowsEightOf}
 use Rattle.core.specs.declared.Core.{Core}
 use Rattle.supervisor.specs.Supervisor.{isSpoiledOf}
@@ -138,3 +141,11 @@ module _ (s : Supervisor) where
   unfolding isSpoiledOf
   unspoiled-to-test u =
       rw (branches-test eight (s .readout .branches) (u .branches), sound-test (s .core) (s .readout .branches) u)
+
+  -- [Blind.3]
+  pub blind-above-2-is-spoiled : 2 < s .core .blind .count → isSpoiledOf s ≡ true
+  blind-above-2-is-spoiled h = go (isSpoiledOf s) refl
+    where
+      go : (spoiled : Bool) → isSpoiledOf s ≡ spoiled → spoiled ≡ true
+      go true e = refl
+      go false e = absurd (omega (arith, h, leb-true (s .core .blind .count) blindTicks (unspoiled-from-test e .sequencers .blind)))
