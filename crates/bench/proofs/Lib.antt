@@ -1,6 +1,7 @@
 -- What is computed, in the order of reading, and what sessions are. Assumes nothing.
 pub mod Opened
 pub mod Examples
+pub mod BlindExamples
 pub mod Script
 pub mod Misreadings
 pub mod SessionsLaws

@@ -31,6 +31,12 @@ t1 = 12
 abbrev pub scaler0 : ℕ
 scaler0 = 17
 
+abbrev pub scaler1 : ℕ
+scaler1 = 18
+
+abbrev pub assign : ℕ
+assign = 19
+
 -- ---- bits of their values, and lines
 
 -- [Control.1]
@@ -52,6 +58,13 @@ enableSync = 2 ^ 4
 
 abbrev pub useT1 : ℕ
 useT1 = 2 ^ 6
+
+-- [CSRWrite.2a] [CSRWrite.2d] of a written value: bit 14 is RESET, bit 16 clears GO
+abbrev pub reset : ℕ
+reset = 2 ^ 14
+
+abbrev pub clearGo : ℕ
+clearGo = 2 ^ 16
 
 -- [CSR.2] bit 17
 abbrev pub lateFail : ℕ

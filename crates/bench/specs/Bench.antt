@@ -1,5 +1,5 @@
--- Document 01's bench examples P1–P9, as a table.
---     document 01   "Bench examples P1–P9"
+-- Document 01's bench examples P1–P9, as document 02 amends them, as a table.
+--     document 01   "Bench examples P1–P9"; document 02, N1
 --     Example       a row: given these asks, ask those, look at this in each reply to those, see these numbers
 --     p1 .. p9Declined   the rows, one for each thing that a sentence says, by the number of its example
 --     examples      the table; allRight: each row sees what it says
@@ -69,6 +69,13 @@ p4NoClass = given store 0x0001 ∷ running ask pulse 1 ∷ [] look rejected see 
 
 abbrev pub p4NotOk : Example
 p4NotOk = given store 0x0002 ∷ running ask pulse 1 ∷ [] look rejected see 1 ∷ []
+
+-- [Blind.5] a pulse in each of the next two ticks is lost; a fourth is rejected again
+abbrev pub p4Rejected : Example
+p4Rejected = given store 0x0001 ∷ running ask times 4 (pulse 1 ∷ []) look rejected see 1 ∷ 0 ∷ 0 ∷ 1 ∷ []
+
+abbrev pub p4Lost : Example
+p4Lost = given store 0x0001 ∷ running ask times 4 (pulse 1 ∷ []) look lost see 0 ∷ 1 ∷ 1 ∷ 0 ∷ []
 
 -- [Bench.5] class 2: a pass together with a fail clears the event
 abbrev pub p5 : Example
@@ -150,6 +157,8 @@ examples =
     ∷ p3
     ∷ p4NoClass
     ∷ p4NotOk
+    ∷ p4Rejected
+    ∷ p4Lost
     ∷ p5
     ∷ p6Clears
     ∷ p6NoStatus

@@ -2,3 +2,4 @@
 pub mod Asks
 pub mod Sessions
 pub mod Bench
+pub mod Blind
