@@ -7,7 +7,7 @@ include!("src/bin/compare/fault_list.rs");
 fn main() {
     println!("cargo:rerun-if-changed=build.rs");
     println!("cargo:rerun-if-changed=src/machine");
-    for list in ["fault_list", "call_faults", "tick_faults"] {
+    for list in ["fault_list", "call_faults", "tick_faults", "request_faults"] {
         println!("cargo:rerun-if-changed=src/bin/compare/{list}.rs");
     }
     if std::env::var_os("CARGO_FEATURE_PROVED").is_none() {
@@ -51,7 +51,10 @@ fn faulty(source: &str) -> String {
             continue;
         }
         done.push(fault.right);
-        assert_eq!(source.matches(fault.right).count(), 1, "the place of a fault: {}", fault.right);
+        // Nor may it stand in a wrong text put in before, which would then be changed in its stead.
+        for place in [source, text.as_str()] {
+            assert_eq!(place.matches(fault.right).count(), 1, "the place of a fault: {}", fault.right);
+        }
         let wrong: String = faults()
             .enumerate()
             .filter(|(_, other)| other.right == fault.right)

@@ -1,8 +1,8 @@
 //! The supervisor's record and its calls.
 //!
 //! The record is changed in place. What a tick tests is the record at its start [Tick.2], so `tick` takes copies of
-//! the few values that one move changes and another one tests (CSR, main's state, the user sync's wait, "all empty"),
-//! and moves the branches last.
+//! the few values that one move changes and another one tests (CSR, main's state, the user sync's wait, "all empty",
+//! whether the module is blind), and moves the branches last.
 
 mod branch;
 mod cycle;
@@ -94,6 +94,8 @@ pub struct Supervisor {
 
     pub sync_count: u32,
     pub user_sync_waiting: bool,
+    /// Ticks to come that are not ready after a rejected pattern. [Blind.2] [Blind.3]
+    pub blind: u32,
     pub branches: [Branch; BRANCHES],
 }
 
@@ -127,6 +129,8 @@ impl Supervisor {
     pub const SYNC_COUNT_LIMIT: u32 = 65_534;
     /// Largest c. [Spoiled.1j]
     pub const CLEAR_COUNT_LIMIT: u32 = 255;
+    /// Ticks that are not ready after a rejected pattern, and so the largest blind count. [Blind.2] [Blind.3]
+    pub const BLIND_TICKS: u32 = 2;
 
     /// The record of power-up: all zero, all idle. [Registers.4] [Declines.6]
     pub const fn fresh() -> Self {
@@ -158,11 +162,12 @@ impl Supervisor {
             level_3_accept: false,
             sync_count: 0,
             user_sync_waiting: false,
+            blind: 0,
             branches: [Branch::fresh(), Branch::fresh(), Branch::fresh(), Branch::fresh()],
         }
     }
 
-    /// The spoiled rule, made at every call. [Spoiled.1a]–[Spoiled.1k]
+    /// The spoiled rule, made at every call. [Spoiled.1a]–[Spoiled.1k] [Blind.3]
     #[inline]
     pub fn is_spoiled(&self) -> bool {
         // No early way out here either. Register by register in the record's order, so that the compiler can take
@@ -186,7 +191,8 @@ impl Supervisor {
             self.counters.iter().zip(&self.factors).fold(false, |any, (counter, factor)| any | (counter > factor));
         let over = (self.sync_count > Self::SYNC_COUNT_LIMIT) // [Spoiled.1h]
             | (self.age > Self::AGE_LIMIT) // [Spoiled.1i]
-            | (self.clear_count > Self::CLEAR_COUNT_LIMIT); // [Spoiled.1j]
+            | (self.clear_count > Self::CLEAR_COUNT_LIMIT) // [Spoiled.1j]
+            | (self.blind > Self::BLIND_TICKS); // [Blind.3]
 
         // [Spoiled.1c], [Spoiled.1k]
         let main = ((self.main == MainState::Wait2) & !matches!(self.class, 2 | 3))
@@ -198,7 +204,7 @@ impl Supervisor {
         (stray != 0) | above | over | !is_listed(self.assign) | main | branches
     }
 
-    /// [Active.1]
+    /// [Active.1]; the blind count is no part of it. [Open: T8]
     #[inline]
     pub fn is_active(&self) -> bool {
         self.csr & csr::GO != 0

@@ -118,13 +118,14 @@ impl Supervisor {
         }
     }
 
-    /// [CSRWrite.2d] [Main.17]; the user sync is one of the sequencers that go idle.
+    /// [CSRWrite.2d] [Main.17] [Blind.3]; the user sync is one of the sequencers that go idle.
     fn reset(&mut self) {
         self.csr &= !csr::CLEARED_BY_RESET;
         self.counters = self.factors;
         self.scalers = [0; 2];
         self.sync_count = 0;
         self.user_sync_waiting = false;
+        self.blind = 0;
         self.branches = [Branch::fresh(), Branch::fresh(), Branch::fresh(), Branch::fresh()];
         self.idle_main();
     }

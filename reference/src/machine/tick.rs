@@ -55,6 +55,7 @@ impl Supervisor {
         let start_csr = self.csr;
         let start_main = self.main;
         let waiting = self.user_sync_waiting;
+        let blind = self.blind > 0;
         let wanted = sync_wanted(start_csr);
         let all_empty = self.branches.iter().all(|branch| branch.used == 0);
 
@@ -74,13 +75,15 @@ impl Supervisor {
         }
         let passed = counted & !(stopped | scaled);
 
-        // Ready. [Ready.1]–[Ready.5]
+        // Ready. [Ready.1]–[Ready.5] The blind count falls in every tick that runs. [Blind.2] [Blind.4] [Open: T8]
         let (mut lost, mut rejected, mut accepted) = (0, 0, 0);
+        self.blind = self.blind.saturating_sub(1);
         if passed != 0 {
             let ready = start_csr & csr::GO != 0
                 && start_main == MainState::Idle
                 && !waiting
                 && !wanted
+                && !blind
                 && lines & line::FRONT_BUSY == 0
                 && (lines & line::INHIBIT == 0 || start_csr & csr::OVERRIDE_INHIBIT != 0);
             if !ready {
@@ -89,6 +92,7 @@ impl Supervisor {
                 accepted = passed;
             } else {
                 rejected = passed;
+                self.blind = Self::BLIND_TICKS; // [Blind.2]
             }
         }
 

@@ -1,4 +1,4 @@
-//! P1–P9 and the four misreadings. [Bench.1]–[Bench.10]
+//! P1–P9 and the four misreadings. [Bench.1]–[Bench.10] [Blind.5]
 
 use super::*;
 
@@ -8,7 +8,7 @@ fn p1_factor_0_passes_each_pulse() {
         let mut unit = Unit::running(0, &[(Supervisor::FACTOR_1 + input, 0)], csr::GO); // [Bench.1]
         for _ in 0..5 {
             let answer = unit.tick(1 << input, 0, 0);
-            assert_eq!((answer.scaled, answer.rejected), (0, 1 << input));
+            assert_eq!((answer.scaled, answer.lost | answer.rejected), (0, 1 << input));
         }
     }
 }
@@ -45,8 +45,14 @@ fn p4_word_without_class_or_without_ok_rejects() {
         let before = unit.record.clone();
         let answer = unit.tick(1, 0, 0);
         assert_eq!((answer.rejected, answer.accepted, answer.lines), (1, 0, 0));
-        // Nothing but scaler 1 (assigned to any pulse passed) moves. [Open: T2]
-        assert_eq!(unit.record, Supervisor { scalers: [0, 1], ..before });
+        // Nothing but scaler 1 (assigned to any pulse passed) and the blind count moves. [Open: T2] [Blind.3]
+        assert_eq!(unit.record, Supervisor { scalers: [0, 1], blind: 2, ..before });
+
+        // A pulse in each of the next two ticks is lost, the one after them rejected. [Blind.2] [Blind.4] [Blind.5]
+        for expected in [(0, 1), (0, 1), (1, 0)] {
+            let answer = unit.tick(1, 0, 0);
+            assert_eq!((answer.rejected, answer.lost), expected);
+        }
     }
 }
 

@@ -108,6 +108,7 @@ fn busy() -> Unit {
     assert_eq!(unit.used(), [2; 4]);
     assert_eq!((unit.record.main, unit.record.sync_count, unit.record.scalers), (MainState::Wait3, 2, [2, 3]));
     assert_eq!((unit.record.counters[0], unit.record.counters[7]), (5, 1));
+    unit.record.blind = 2; // no list of calls has it in a cycle
     unit
 }
 

@@ -2,6 +2,7 @@
 
 mod account;
 mod bench;
+mod blind;
 mod branches;
 mod console;
 mod csr_write;

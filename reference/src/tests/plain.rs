@@ -34,6 +34,7 @@ pub fn is_spoiled(r: &Supervisor) -> bool {
         || r.sync_count > 65_534
         || r.age > 131_070
         || r.clear_count > 255
+        || r.blind > 2 // [Blind.3]
         || (r.main != MainState::Idle && r.user_sync_waiting)
 }
 
@@ -67,10 +68,11 @@ pub fn tick(start: &Supervisor, memory: &[u16], triggers: u32, lines: u32, ackno
         }
     }
 
-    // Ready. [Ready.1]–[Ready.6]
+    // Ready. [Ready.1]–[Ready.6] [Blind.2] [Blind.4]
     let wanted = (csr(2) || csr(3)) && csr(4);
     let idle = start.main == MainState::Idle;
-    let ready = csr(0) && idle && !start.user_sync_waiting && !wanted && !front_busy && (!inhibit || csr(11));
+    let open = !front_busy && (!inhibit || csr(11)) && start.blind == 0;
+    let ready = csr(0) && idle && !start.user_sync_waiting && !wanted && open;
     let (mut lost, mut rejected, mut accepted) = (0, 0, 0);
     let latched = ready && passed != 0;
     if latched {
@@ -94,6 +96,11 @@ pub fn tick(start: &Supervisor, memory: &[u16], triggers: u32, lines: u32, ackno
     } else {
         lost = passed;
     }
+    next.blind = match start.blind {
+        _ if rejected != 0 => 2,
+        0 => 0,
+        count => count - 1,
+    };
     if inhibit {
         next.csr |= 1 << 16;
     }

@@ -58,7 +58,8 @@ fn prescalers_count_while_not_ready() {
 fn inputs_9_to_12_always_pass() {
     let mut unit = Unit::running(0, &[], csr::GO);
     for _ in 0..3 {
-        assert_eq!(unit.tick(0xF00, 0, 0).rejected, 0xF00); // [Pulses.5]
+        let answer = unit.tick(0xF00, 0, 0);
+        assert_eq!(answer.lost | answer.rejected, 0xF00); // [Pulses.5]
     }
 }
 
@@ -68,11 +69,12 @@ fn each_prescaler_counts_by_itself() {
     let mut unit = Unit::running(0, &factors, csr::GO);
     for tick in 1..=200u32 {
         let answer = unit.tick(0xFFF, 0, 0);
+        let passed = answer.lost | answer.rejected;
         for input in 0..8 {
             let passes = tick % (input + 1) == 0; // [Account.17]
-            assert_eq!(u32::from(answer.rejected) >> input & 1 != 0, passes, "tick {tick}, input {input}");
+            assert_eq!(u32::from(passed) >> input & 1 != 0, passes, "tick {tick}, input {input}");
         }
-        assert_eq!(answer.scaled | answer.rejected, 0xFFF);
+        assert_eq!(answer.scaled | passed, 0xFFF);
     }
 }
 
@@ -148,6 +150,12 @@ fn every_condition_of_ready() {
     waiting.quiet();
     waiting.write(Supervisor::CSR, (csr::FORCE_SYNC | csr::ENABLE_SYNC) << 16);
     assert!(!accepted(&mut waiting, 0));
+    // Blind. [Blind.2]
+    for count in 0..=2 {
+        let mut unit = running(csr::GO);
+        unit.record.blind = count;
+        assert_eq!(accepted(&mut unit, 0), count == 0);
+    }
     // GO clear, prescales open.
     let mut open = Unit::fresh(word);
     open.write(Supervisor::CONTROL, control::OPEN_PRESCALES | ALL_ENABLED);

@@ -116,6 +116,9 @@ impl List {
                     self.met.others.insert(name);
                 }
             }
+            if before.blind > 0 && answer.lost != 0 {
+                self.met.others.insert("lost while blind");
+            }
         }
         self.account.tick(triggers, lines, &answer);
         self.after('T', answer.err(), before, 0);
@@ -240,6 +243,7 @@ fn the_account_holds_after_each_of_many_calls() {
         "lost",
         "rejected",
         "accepted",
+        "lost while blind",
         "user sync waiting",
         "queue full",
     ];

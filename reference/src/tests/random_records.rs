@@ -45,6 +45,7 @@ fn random_record(random: &mut Random) -> Supervisor {
     r.level_3_accept = random.flip();
     r.sync_count = if random.flip() { random.below(4) } else { 65_534 - random.below(3) };
     r.user_sync_waiting = r.main == MainState::Idle && random.flip();
+    r.blind = if random.flip() { 0 } else { random.below(3) };
     let full = r.user_sync_waiting || matches!(r.main, MainState::Space | MainState::SyncHold);
     let all_empty = random.once_in(3);
     for branch in &mut r.branches {
@@ -92,7 +93,7 @@ fn the_quick_spoiled_test_is_the_slow_one() {
         let wild = random.next() >> random.below(32);
         let input = random.below(8) as usize;
         let b = random.below(4) as usize;
-        match random.below(21) {
+        match random.below(22) {
             0 => r.csr = wild,
             1 => r.control = wild,
             2 => r.factors[input] = wild,
@@ -113,6 +114,7 @@ fn the_quick_spoiled_test_is_the_slow_one() {
             17 => r.branches[b].words[input] = wild as u8,
             18 => r.branches[b].state = BranchState::Strobe,
             19 => r.user_sync_waiting = true,
+            20 => r.blind = wild,
             _ => r.main = random.pick(&[MainState::Idle, MainState::Wait2, MainState::Front, MainState::Space]),
         }
         assert_eq!(r.is_spoiled(), plain::is_spoiled(&r), "{r:?}");

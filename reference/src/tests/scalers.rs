@@ -58,8 +58,8 @@ fn stopped_and_scaled_pulses_do_not_count() {
 #[test]
 fn latched_and_rejected() {
     let counted = counts(0x0001, &[], csr::GO, &EACH_GROUP, |unit| {
-        unit.tick(0x801, 0, 0);
         unit.tick(0x801, line::FRONT_BUSY, 0); // passed, but not latched
+        unit.tick(0x801, 0, 0);
     });
     assert_eq!(counted, [2, 2, 1, 0, 1, 0, 0, 0, 0]);
 }

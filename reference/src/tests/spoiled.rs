@@ -1,4 +1,4 @@
-//! Each clause of the spoiled rule alone. [Spoiled.1a]–[Spoiled.1k]
+//! Each clause of the spoiled rule alone. [Spoiled.1a]–[Spoiled.1k] [Blind.3]
 
 use super::*;
 
@@ -228,6 +228,19 @@ fn clear_count() {
     for (count, expected) in [(255, false), (256, true), (u32::MAX, true)] {
         expect(expected, |r| r.clear_count = count); // [Spoiled.1j]
     }
+}
+
+#[test]
+fn blind_count() {
+    for (count, expected) in [(0, false), (1, false), (2, false), (3, true), (255, true), (256, true), (u32::MAX, true)]
+    {
+        expect(expected, |r| r.blind = count); // [Blind.3]
+    }
+    // Only the bound spoils, not a count in a cycle. [Open: T8]
+    leaves(|r| {
+        r.main = MainState::Delay;
+        r.blind = 2;
+    });
 }
 
 #[test]

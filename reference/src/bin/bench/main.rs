@@ -140,7 +140,7 @@ mod layout {
     #[repr(C)]
     pub struct Timers([u16; 4], u8);
     #[repr(C)]
-    pub struct Core([[u32; 8]; 2], u32, u32, [u32; 3], Main, Timers, [u16; 2], u8);
+    pub struct Core([[u32; 8]; 2], u32, u32, [u32; 3], Main, Timers, [u16; 2], [u8; 2]);
     #[repr(C)]
     pub struct Supervisor(Readout, Core);
 }

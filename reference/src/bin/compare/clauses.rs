@@ -3,7 +3,7 @@
 use crate::numbers::*;
 
 /// The clauses of the spoiled rule that a record of both machines can break.
-pub const CLAUSES: [&str; 16] = [
+pub const CLAUSES: [&str; 17] = [
     "CSR bit",
     "control bit",
     "factor of inputs 1-4",
@@ -20,10 +20,11 @@ pub const CLAUSES: [&str; 16] = [
     "sync count over 65,534",
     "age over 131,070",
     "cycle while a user sync waits",
+    "blind count over 2",
 ];
 
 /// The clauses once more, only to count them.
-pub fn broken_clauses(n: &Record) -> [bool; 16] {
+pub fn broken_clauses(n: &Record) -> [bool; CLAUSES.len()] {
     let branch = |b: usize| (n[BRANCH + 3 * b].to_le_bytes(), n[BRANCH + 3 * b + 1], n[BRANCH + 3 * b + 2]);
     let any = |is: &dyn Fn([u8; 8], u64, u64) -> bool| {
         (0..4).any(|b| {
@@ -49,5 +50,6 @@ pub fn broken_clauses(n: &Record) -> [bool; 16] {
         n[SYNC_COUNT] > 65_534,
         n[AGE] > 131_070,
         n[WAITING] == 1 && n[STATE] != 0,
+        n[BLIND] > 2,
     ]
 }

@@ -1,5 +1,7 @@
-//! What the compared calls met: every state, decline, outcome, assignment and clause of the spoiled rule.
+//! What the compared calls met: every state, decline, outcome, assignment and clause of the spoiled rule, and the
+//! blind time.
 
+use crate::blind_counts::{self, BlindCounts};
 use crate::clauses::{broken_clauses, CLAUSES};
 use crate::numbers::*;
 use reference::machine::csr;
@@ -45,7 +47,8 @@ pub struct Counts {
     held: [u64; 9],
     events: [u64; 15],
     resets: [[u64; 9]; 2],
-    clauses: [[u64; 2]; 16],
+    blind: BlindCounts,
+    clauses: [[u64; 2]; CLAUSES.len()],
 }
 
 impl Counts {
@@ -65,7 +68,8 @@ impl Counts {
             held: [0; 9],
             events: [0; 15],
             resets: [[0; 9]; 2],
-            clauses: [[0; 2]; 16],
+            blind: BlindCounts::new(),
+            clauses: [[0; 2]; CLAUSES.len()],
         }
     }
 
@@ -73,6 +77,7 @@ impl Counts {
     pub fn add(&mut self, before: &Record, call: Call, reply: &Reply, after: &Record) {
         self.calls += 1;
         self.replies[call[0] as usize][reply[0] as usize] += 1;
+        self.blind.add(before, call, reply, after);
         if reply[0] == 1 {
             let broken = broken_clauses(before);
             let together = usize::from(broken.iter().filter(|&&is| is).count() > 1);
@@ -237,6 +242,10 @@ impl Counts {
             for (state, count) in STATES.iter().chain(&["a user sync's wait"]).zip(counts) {
                 row(format!("{name} in {state}"), count);
             }
+        }
+        println!("The blind time after a rejected pattern");
+        for (name, count) in blind_counts::EVENTS.iter().zip(self.blind.events) {
+            row((*name).into(), count);
         }
         println!("Clauses of the spoiled rule");
         for (name, count) in CLAUSES.iter().zip(self.clauses) {

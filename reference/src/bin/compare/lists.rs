@@ -4,7 +4,7 @@
 use crate::numbers::*;
 use crate::profile::{Acknowledges, Profile};
 use crate::random::Random;
-use crate::values::{csr_value, listed, number, place, value, word};
+use crate::values::{blind_value, csr_value, listed, number, place, value, word, HABITS};
 use reference::machine::{csr, MEMORY_WORDS};
 
 /// A step of a list: a call with one of the lent memories, or a record put in the place of the one that stands.
@@ -36,7 +36,7 @@ impl Maker {
 
     /// The lent memories: the one mostly lent, another, and four of other lengths.
     pub fn memories(&mut self) -> Vec<Vec<u16>> {
-        let habit = self.random.below(5);
+        let habit = self.random.below(HABITS);
         let mut words = |count: usize| -> Vec<u16> { (0..count).map(|_| word(&mut self.random, habit)).collect() };
         vec![words(MEMORY_WORDS), words(MEMORY_WORDS), vec![], words(1), words(4_095), words(4_097)]
     }
@@ -117,7 +117,9 @@ impl Maker {
             self.set_up();
         }
         let is_stopped = record[0] & u64::from(csr::GO) == 0;
-        let call = if is_stopped && self.random.chance(self.profile.restarts) {
+        let call = if record[BLIND] > 0 && self.random.once_in(12) {
+            self.while_blind()
+        } else if is_stopped && self.random.chance(self.profile.restarts) {
             [WRITE_REGISTER, 0, csr::GO.into(), 0]
         } else if self.random.chance(self.profile.others) {
             self.other(record)
@@ -125,6 +127,14 @@ impl Maker {
             self.tick(record)
         };
         self.lent(call)
+    }
+
+    /// A write to the CSR and a setting behind it, which is taken where the first has stopped the module.
+    fn while_blind(&mut self) -> Call {
+        let random = &mut self.random;
+        let (factor, value) = (2 + random.below(8), random.below(3));
+        self.queued.push([WRITE_REGISTER, factor.into(), value.into(), 0]);
+        [WRITE_REGISTER, 0, blind_value(random).into(), 0]
     }
 
     fn lent(&mut self, call: Call) -> Step {
@@ -202,7 +212,7 @@ impl Maker {
             }
             9 | 10 => [READ_REGISTER, number(random).into(), 0, 0],
             11 | 12 => {
-                let habit = random.below(5);
+                let habit = random.below(HABITS);
                 [WRITE_MEMORY, place(random).into(), word(random, habit).into(), 0]
             }
             13 | 14 => [READ_MEMORY, place(random).into(), 0, 0],
@@ -216,7 +226,7 @@ impl Maker {
         let random = &mut self.random;
         let b = BRANCH + 3 * random.below(4) as usize;
         let i = random.below(8) as usize;
-        match random.below(28) {
+        match random.below(29) {
             0 => n[0] ^= 1 << random.below(32),
             1 => n[1] ^= 1 << random.below(32),
             2 => {
@@ -271,6 +281,7 @@ impl Maker {
                 let place = random.below(n[b + 1].min(8) as u32);
                 n[b] |= 0x40 << (8 * place + random.below(2));
             }
+            27 => n[BLIND] = random.pick(&[0, 1, 2, 3, 255]),
             _ => {
                 n[WAITING] = 1;
                 n[STATE] = 0;

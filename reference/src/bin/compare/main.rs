@@ -1,6 +1,7 @@
 //! Compares the proved library with the model: random lists of calls, every reply, the record after every call, and
 //! the memory. See docs/PERFORMANCE.md for what is covered.
 
+mod blind_counts;
 mod clauses;
 mod counts;
 mod faults;

@@ -56,6 +56,7 @@ macro_rules! model {
                     level_3_accept: raised(4),
                     sync_count: word(SYNC_COUNT),
                     user_sync_waiting: n[WAITING] == 1,
+                    blind: word(BLIND),
                     branches: std::array::from_fn(branch),
                 }
             }
@@ -92,6 +93,7 @@ macro_rules! model {
                 n[LATE] = s.late.into();
                 n[SYNC_COUNT] = s.sync_count.into();
                 n[WAITING] = s.user_sync_waiting.into();
+                n[BLIND] = s.blind.into();
                 for (b, branch) in s.branches.iter().enumerate() {
                     n[BRANCH + 3 * b] = u64::from_le_bytes(branch.words);
                     n[BRANCH + 3 * b + 1] = branch.used.into();

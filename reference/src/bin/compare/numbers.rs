@@ -1,7 +1,7 @@
 //! The machines as the comparison sees them: records, calls and replies are numbers, laid out as in crates/numbers and crates/harness.
 
-/// Registers 0–19, counters, main, sync count, user sync, then three numbers for each branch.
-pub const RECORD: usize = 50;
+/// Registers 0–19, counters, main, sync count, user sync, three numbers for each branch, then the blind count.
+pub const RECORD: usize = 51;
 pub const COUNTERS: usize = 20;
 pub const STATE: usize = 28;
 pub const AGE: usize = 29;
@@ -15,6 +15,8 @@ pub const SYNC_COUNT: usize = 36;
 pub const WAITING: usize = 37;
 /// Words, length and state of branch b stand from `BRANCH + 3 * b` on.
 pub const BRANCH: usize = 38;
+/// A byte in the proved record, so never above 255.
+pub const BLIND: usize = 50;
 
 pub const FIELDS: [&str; RECORD] = [
     "CSR",
@@ -67,6 +69,7 @@ pub const FIELDS: [&str; RECORD] = [
     "words 4",
     "used 4",
     "branch 4",
+    "blind count",
 ];
 
 pub type Record = [u64; RECORD];

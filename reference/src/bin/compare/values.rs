@@ -64,6 +64,12 @@ pub fn csr_value(random: &mut Random) -> u32 {
     }
 }
 
+/// A value for the CSR of a blind module: a stop, a start, RESET or a sync.
+pub fn blind_value(random: &mut Random) -> u32 {
+    let sync = csr::ENABLE_SYNC | random.pick(&[csr::PAUSE_AND_SYNC, csr::FORCE_SYNC]);
+    random.pick(&[csr::GO << 16, csr::GO << 16, csr::GO, csr::RESET, sync])
+}
+
 pub fn place(random: &mut Random) -> u32 {
     if random.once_in(12) {
         random.pick(&[4_095, 4_096, 4_097, 65_536, u32::MAX])
@@ -72,7 +78,10 @@ pub fn place(random: &mut Random) -> u32 {
     }
 }
 
-/// A memory word; `habit` says which class is frequent.
+/// Habits of a memory.
+pub const HABITS: u32 = 6;
+
+/// A memory word; `habit` says which class is frequent, or that most words reject.
 pub fn word(random: &mut Random, habit: u32) -> u16 {
     let any = random.next() as u16;
     match habit {
@@ -80,6 +89,7 @@ pub fn word(random: &mut Random, habit: u32) -> u16 {
         1 => any & !0x000E | 0x0003,
         2 => any & !0x000E | 0x0005,
         3 => any & !0x000E | 0x0009,
+        4 if !random.once_in(4) => any & !0x0001,
         _ => any | 0x0001,
     }
 }
