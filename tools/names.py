@@ -44,6 +44,8 @@ OUTCOMES = {"-": "none", "c": "cleared", "e": "event", "g": "tag"}
 BRANCHES = range(1, 5)
 STATES = ["Idle", "Delay", "Wait 2", "Wait 3", "Front", "Space", "Sync hold", "Clear"]
 TICK_NS = 20
+# [Blind.2] ticks that are not ready after a rejected pattern
+BLIND_TICKS = 2
 
 # [Console.1] [Console.2] [Console.3] a line's fields, each with its count of digits
 LONGEST = 65536

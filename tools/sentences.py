@@ -153,7 +153,7 @@ def outcome_words(outcome):
 
 
 def mask_words(line, mask):
-    """A mask's inputs; for lost pulses with the reason. [Ready.1]"""
+    """A mask's inputs; for lost pulses with the reason. [Ready.1] [Blind.2]"""
     pulses = line.tick.masks[mask]
     why = f" ({', '.join(unready(line.before, line.tick.lines))})" if mask == "lost" else ""
     return [f"{mask} {inputs(pulses)}{why}"] if pulses else []
@@ -173,13 +173,20 @@ def answered_words(line):
     return "; ".join(parts) or "nothing"
 
 
+# by the blind count that a call leaves [Blind.2]
+BLIND = ["no longer blind", "blind in the next tick", "blind in the next two ticks"]
+
+
 def changes(line):
-    """What the call changed besides what it asks or answers: main's state, the user sync's wait, CSR bits 0–11."""
+    """What the call changed besides what it asks or answers: main's state, the user sync's wait, the blind count, CSR bits
+    0–11."""
     before, after = line.before, line.after
     if before.state != after.state:
         yield f"main: {before.state} → {after.state}"
     if before.waits != after.waits:
         yield "a user sync waits" if after.waits else "the user sync's wait ends"
+    if before.blind != after.blind:
+        yield BLIND[after.blind]
     if line.tick and before.csr != after.csr:
         yield "cleared in the CSR: " + listed(csr_names(before.csr & ~after.csr))
 

@@ -1,5 +1,5 @@
-"""Follows main's state, c, the user sync's wait, the queues, CSR bits 0–11 and T5 from a script's calls and answers alone.
-Each is what the call leaves. What does not fit document 01 is a Misfit, never a guess."""
+"""Follows main's state, c, the user sync's wait, the blind count, the queues, CSR bits 0–11 and T5 from a script's calls and
+answers alone. Each is what the call leaves. What does not fit documents 01 and 02 is a Misfit, never a guess."""
 import typing
 
 import names
@@ -82,17 +82,18 @@ def is_wanted(csr):
 
 
 class Standing(typing.NamedTuple):
-    """What is followed, between two calls: main's state, whether a user sync waits, CSR bits 0–11, the words that each
-    branch holds."""
+    """What is followed, between two calls: main's state, whether a user sync waits, the blind count, CSR bits 0–11, the
+    words that each branch holds."""
 
     state: str
     waits: bool
+    blind: int
     csr: int
     held: typing.Tuple[int, ...]
 
 
 def unready(standing, lines):
-    """Why passed pulses are lost in a tick with these lines; nothing for a ready unit. [Ready.1]"""
+    """Why passed pulses are lost in a tick with these lines; nothing for a ready unit. [Ready.1] [Blind.2]"""
     inhibited = lines & names.INHIBIT and not standing.csr & names.OVERRIDE
     return [
         *(["GO is clear"] if not standing.csr & names.GO else []),
@@ -100,6 +101,7 @@ def unready(standing, lines):
         *(["a user sync waits"] if standing.waits else ["a user sync is wanted"] if is_wanted(standing.csr) else []),
         *(["front busy is high"] if lines & names.BUSY else []),
         *(["inhibit is high"] if inhibited else []),
+        *(["blind after a rejected pattern"] if standing.blind else []),
     ]
 
 
@@ -112,8 +114,8 @@ class Follower:
         self.idle()
 
     def idle(self):
-        """All sequencers at Idle and no word held, as RESET leaves them. [CSRWrite.2d]"""
-        self.state, self.out, self.late, self.clear, self.waits = "Idle", 0, False, 0, False
+        """All sequencers at Idle, no word held and not blind, as RESET leaves them. [CSRWrite.2d] [Blind.3]"""
+        self.state, self.out, self.late, self.clear, self.waits, self.blind = "Idle", 0, False, 0, False, 0
         self.queues = [[], [], [], []]
 
     # ---- calls other than ticks
@@ -135,7 +137,7 @@ class Follower:
         fit(register != names.CSR or value & 0xFFFF == self.csr, f"CSR bits 0–15 should be {self.csr:04X}")
 
     def standing(self):
-        return Standing(self.state, self.waits, self.csr, tuple(len(queue) for queue in self.queues))
+        return Standing(self.state, self.waits, self.blind, self.csr, tuple(len(queue) for queue in self.queues))
 
     # ---- ticks
 
@@ -154,6 +156,7 @@ class Follower:
         else:
             self.waits = tick.outcome.kind == "tag"
         self.late = state != "Idle" and (self.late or self.is_late(state, tick))
+        self.blind = names.BLIND_TICKS if tick.masks["rejected"] else max(0, self.blind - 1)  # [Blind.2]
         self.state, self.out = state, tick.out
 
     def check_pulses(self, tick):

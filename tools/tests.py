@@ -86,6 +86,8 @@ class Calls(unittest.TestCase):
             ("front busy is high", *FIRST[:3], "T 001 20 00000000"),
             ("inhibit is high", *FIRST[:3], "T 001 40 00000000"),
             ("a user sync waits", *FIRST[:3], "W 00 00000018", TICK, pulse),
+            ("blind after a rejected pattern", *FIRST[1:3], pulse, pulse),
+            ("blind after a rejected pattern", *FIRST[1:3], pulse, TICK, pulse),
             ("GO is clear, a user sync is wanted, front busy is high", opened, "W 00 00000018", "T 001 20 00000000"),
         ]:
             self.assertIn(f"lost input 1 ({why})", line_words(run(*lines).lines[-1])[1])
@@ -96,6 +98,16 @@ class Calls(unittest.TestCase):
         said = [line_words(line) for line in run("W 00 00000015", *[TICK] * 4).lines]
         self.assertEqual(said[1][1:], ["Out: outcome tag 10 (code 0, sync)", "a user sync waits"])
         self.assertEqual(said[4][1:], ["Out: nothing", "the user sync's wait ends", "cleared in the CSR: GO, pause and sync"])
+
+
+    def test_blind(self):
+        pulse = "T 001 00 00000000"
+        said = [line_words(line) for line in run(*FIRST[1:3], pulse, pulse, TICK, pulse, "W 00 00004000").lines]
+        self.assertEqual(said[2][1:], ["Out: rejected input 1", "blind in the next two ticks"])
+        self.assertEqual(said[3][2:], ["blind in the next tick"])
+        self.assertEqual(said[4][1:], ["Out: nothing", "no longer blind"])
+        self.assertEqual(said[5][1:], said[2][1:])
+        self.assertEqual(said[6][1:], ["no longer blind"])
 
 
 class Declines(unittest.TestCase):
@@ -178,6 +190,7 @@ class States(unittest.TestCase):
         "class3": "Wait2*2 Wait3*2 Front Space Idle*6",
         "late": "Wait2*6 Front Space Idle*3",
         "cleared": "Wait2*5 Clear*4 Idle Wait2 Delay Front Space Idle*2",
+        "rejected": "Idle*3 Delay Front Space Idle*2",
         "prescaled": "Idle*2 Delay Front Space Idle*5 Delay Front Space Idle*3",
         "scheduled_sync": "Delay Front Space Idle*3 Delay Front Synchold*3 Idle Delay Front Space Idle*3",
         "user_sync": "Delay Front Space Idle*9 Delay",
@@ -222,6 +235,13 @@ class States(unittest.TestCase):
                                  (2, "ok", "no 6"), (6, "000", "0000")]:
             self.misfits(script, answers, number, old, new)
         self.assertRaises(session.Misfit, session.run, script, answers[:-1])
+
+    def test_wrong_masks(self):
+        """A pulse latched in a blind tick, or lost in the tick after them: lines 6 and 8 of the example."""
+        script = (TOP / "examples" / "rejected.txt").read_bytes()
+        answers = session.printed(script)
+        self.misfits(script, answers, 6, "001 000 000 0000", "000 001 000 0000")
+        self.misfits(script, answers, 8, "000 000 001 0101", "001 000 000 0000")
 
     def test_sync_hold_too_short(self):
         """Sync hold left in tick 11 (line 16), at whose start the branches still hold the word."""

@@ -99,6 +99,7 @@ class Wave(unittest.TestCase):
             self.assertEqual(values["main.state"], line.after.state.replace(" ", "_"))
             self.assertEqual(names.STATES[number(values, "main.state_number")], line.after.state)
             self.assertEqual(values["main.user_sync_waits"], str(int(line.after.waits)))
+            self.assertEqual(values["main.blind"], format(line.after.blind, "02b"))
             for name, (kind, width) in wave.signals.items():
                 self.assertTrue(kind == "string" or len(values[name]) == width, name)
 

@@ -24,6 +24,9 @@ SCRIPTS = [
     ("cleared", "A cleared event",
      "The level 2 fail comes at age 5, before 2 × T1: the event is cleared. T5 is in use, so the clear line is high for T5 "
      "ticks; the pulse after that is accepted."),
+    ("rejected", "A rejected pattern",
+     "Input 2's word is not OK: its pulse is rejected, and the two ticks after it are blind. Input 1's pulses in them are lost, "
+     "the third is accepted. Blind is the count that the tick leaves: while it is above 0 the next tick is not ready."),
     ("scheduled_sync", "A scheduled sync",
      "Every second event has the sync bit; Sync hold keeps main until every branch is empty."),
     ("user_sync", "A user sync",
@@ -79,6 +82,8 @@ def diagram(lines):
     yield from waves(names.LINES_OUT, [tick.out for tick in ticks])
     yield row("outcome", [outcome(tick) for tick in ticks])
     yield from waves(["user sync waits"], [line.after.waits for line in lines])
+    if any(line.after.blind for line in lines):
+        yield row("blind", [line.after.blind or "-" for line in lines])
     yield wave("acknowledge", [tick.acknowledges for tick in ticks])
     yield row("branch 1 shown", [word(tick.shown[0]) for tick in ticks])
     yield row("finished", [word(tick.finished[0]) for tick in ticks])
