@@ -72,7 +72,7 @@ impl Core {
         }
     }
 
-    // [CSRWrite.2d] RESET, but for the CSR's own bits
+    // [CSRWrite.2d] [Blind.3] RESET, but for the CSR's own bits
     pub fn reset(self) -> Core
         ensures { λ r. ⌜ r ≡ resetOf self ⌝ }
     {
