@@ -12,8 +12,9 @@ use Rattle.reader.proofs.ReaderLaws.{lines-end, lines-append}
 use Rattle.script.proofs.ScriptLaws.{answers-so-far, answer-is-line, answers-count}
 use Rattle.claims.specs.Claims.{RefusesInOrder, RefusalLeavesRecord, RefusalLeavesMemory, SpoiledRecordRefuses}
 use Rattle.claims.specs.Claims.{EveryRunBalances, EveryRunBalancesAtAnySize, AnyTwoBranchesAgree, NoRunIsSpoiled}
-use Rattle.claims.specs.Claims.{EveryCallKeepsUnspoiled, BenchExamples, BlindExamples, ExamplesAreLogged, LastNewlineMayLack}
-use Rattle.claims.specs.Claims.{AnswersDoNotLookAhead, LinesDoNotLookAhead, EveryAnswerIsOneLine, OneAnswerEachLine}
+use Rattle.claims.specs.Claims.{EveryCallKeepsUnspoiled, BenchExamples, BlindExamples, ExamplesAreLogged}
+use Rattle.claims.specs.Claims.{LastNewlineMayLack, AnswersDoNotLookAhead, LinesDoNotLookAhead}
+use Rattle.claims.specs.Claims.{EveryAnswerIsOneLine, OneAnswerEachLine}
 
 pub refuses-in-order : RefusesInOrder
 refuses-in-order = declines-in-order

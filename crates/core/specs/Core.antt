@@ -8,7 +8,7 @@
 --     linesOutOf     the lines out
 --     isActiveOf, allowsEightOf, isSoundOf   its part of the active rule and of the spoiled rule, clause by clause in three groups
 -- [Tick.2]: each part below is a function of the record as the tick found it, and of nothing that another part changed.
--- Own rules of 01 used here: none. Decisions: T1, T2, T4, A2, A4, F4. Left out: nothing.
+-- Own rules of 01 used here: none. Decisions: T1, T2, T4, T8, A2, A4, F4. Left out: nothing.
 -- Assumes nothing.
 use Prim.Native.Nat.{ℕ, _+_, _*_, _%_}
 use mathlib.Core.Bool.{Bool, not, _&&_, _||_}

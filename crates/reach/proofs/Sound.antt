@@ -148,4 +148,6 @@ module _ (s : Supervisor) where
     where
       go : (spoiled : Bool) → isSpoiledOf s ≡ spoiled → spoiled ≡ true
       go true e = refl
-      go false e = absurd (omega (arith, h, leb-true (s .core .blind .count) blindTicks (unspoiled-from-test e .sequencers .blind)))
+      go false e =
+          let within = leb-true (s .core .blind .count) blindTicks (unspoiled-from-test e .sequencers .blind) in
+          absurd (omega (arith, h, within))

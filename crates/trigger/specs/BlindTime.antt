@@ -32,10 +32,10 @@ abbrev pub isOver : BlindTime → Bool
 isOver b = eqb (b .count) 0
 
 -- [Blind.4] what becomes of the pulses that pass while it lasts
-pub record LosesAll (passed : ℕ) (m : Masks) : Type 0 where
-  pub lost : m .lost ≡ passed
-  pub rejected : m .rejected ≡ 0
-  pub accepted : m .accepted ≡ 0
+pub record LosesAll (passed : ℕ) (masks : Masks) : Type 0 where
+  pub lost : masks .lost ≡ passed
+  pub rejected : masks .rejected ≡ 0
+  pub accepted : masks .accepted ≡ 0
 
 -- ---- what of it spoils a record
 
