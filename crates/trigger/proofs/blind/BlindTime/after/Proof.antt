@@ -1,7 +1,7 @@
 -- `trigger::blind::BlindTime::after` meets its contract: a return for a rejected pattern, for a count above 0 and for 0,
 -- where one less is 0 too. First written by tools/prove.py; `returns-3` was written by hand. Assumes nothing.
 use Prim.Native.Nat.{ℕ}
-use mathlib.Core.Path.{_≡_, refl, sym, ap}
+use mathlib.Core.Path.{ap}
 use native.Mathlib.Omega.{arith}
 use borrow.Author.Tests.{eq-eqb, ne-eqb}
 use borrow.Author.Needs.{needs}
