@@ -8,6 +8,7 @@
 --     mask-of-bits               a word's own bits make the word again, cut to the width
 --     tabulate-at, -past, -length, -getD   the elements of a table
 --     mask-same, mask-none, tabulate-same  rules that agree below n make the same word, the same table
+--     mask-joins                 the lower n bits and, above them, the others make the word of all
 --     mask-wider                 a rule that holds nowhere from n on makes the same word at a greater width
 --     clear-mask                 a word with a mask cleared, by its rule
 --     words-equal-by-bits        two words are equal if all their bits are
@@ -18,7 +19,7 @@ use mathlib.Core.Path.{_≡_, refl, sym, ap, ap₂, _∙_}
 use mathlib.Core.Bool.{Bool, true, false, not, _&&_, _||_}
 use mathlib.Core.List.{List, [], _∷_}
 use native.Mathlib.Omega.{arith}
-use native.Mathlib.Nat.{mod-lt, div-one, zero-div, div-div-eq-div-mul, pow-succ', mul-one, zero-add, suc-add}
+use native.Mathlib.Nat.{mod-lt, div-one, zero-div, div-div-eq-div-mul, pow-succ', mul-one, mul-assoc, zero-add, suc-add}
 use lib.Arith.{bin-ind}
 use lib.Bits.{bitAnd, bitOr, bitXor, or-shr, or-mod, and-shr, and-mod, xor-shr, xor-mod}
 use lib.Bits.{shifted-half, shifted-even, and-mask}
@@ -170,6 +171,15 @@ mask-same zero f g h = refl
 mask-same (suc n) f g h =
     ap₂ (λ (t : Bool) (m : ℕ). oneIfOf t + 2 * m) (h 0 (omega arith))
     (mask-same n (λ i. f (suc i)) (λ i. g (suc i)) (λ i k. h (suc i) (omega arith)))
+
+pub mask-joins : (n m : ℕ) (f : ℕ → Bool) → maskOf (n + m) f ≡ maskOf n f + 2 ^ n * maskOf m (λ i. f (n + i))
+unfolding maskOf
+mask-joins zero m f =
+    rw (zero-add m, mask-same m (λ i. f (0 + i)) f (λ i h. ap f (zero-add i))) (omega arith)
+mask-joins (suc n) m f =
+    let above = mask-same m (λ i. f (suc n + i)) (λ i. f (suc (n + i))) (λ i h. ap f (suc-add n i)) in
+    rw (suc-add n m, above, pow-succ' 2 n, mul-assoc 2 (2 ^ n) (maskOf m (λ i. f (suc (n + i)))))
+    (omega (arith, mask-joins n m (λ i. f (suc i))))
 
 pub mask-none : (n : ℕ) → maskOf n (λ i. false) ≡ 0
 unfolding maskOf

@@ -2,7 +2,7 @@
 // The definitions are in specs/, their laws in proofs/.
 ghost use mathlib.Core.Path.{_≡_};
 ghost use mathlib.Core.Bool.{false};
-ghost use Prim.Native.Nat.{_≤_};
+ghost use Prim.Native.Nat.{_≤_, _<_};
 ghost use lib.ListN.{getD};
 ghost use Rattle.bits.specs.Notation.{if_then_else_};
 ghost use Rattle.bits.specs.Bits.{bitAt, oneIfOf, maskOf, setOf, clearOf, hasOnly};
@@ -29,9 +29,10 @@ pub fn one_if(t: bool) -> u32
     if t { 1 } else { 0 }
 }
 
-// The word whose bits are given, lowest first.
+// The word whose bits are given, lowest first. The second clause is what a sum of such words asks.
 pub fn mask8(ts: [bool; 8]) -> u32
     ensures { λ r. ⌜ r ≡ maskOf 8 (λ i. getD ts i false) ⌝ }
+    ensures { λ r. ⌜ r < 256 ⌝ }
 {
     one_if(ts[0])
         + 2 * one_if(ts[1])

@@ -8,7 +8,7 @@ use Rattle.prescaler.proofs.Prescalers.gathered.Tie as tie
 
 returns : tie.Need-returns
 unfolding gatheredOf maskOf tabulate
-returns c = rw (c .clear .ensures, c .before .mask8 .ensures)
+returns c = rw (c .clear .ensures, c .before .mask8 .ensures .0)
 
 pub gathered-spec : {M : Type 1} → statement M
 gathered-spec =
