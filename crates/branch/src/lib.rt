@@ -9,7 +9,7 @@ ghost use lib.Bits.{bitOr};
 ghost use Rattle.bits.specs.Notation.{if_then_else_};
 ghost use Rattle.bits.specs.Bytes.{bytes, allOf};
 ghost use Rattle.branch.specs.Slots.{isWordOf, wordOf};
-ghost use Rattle.branch.specs.Branch.{queueDepth, isSixBit, freshOf, isRestOf, isStrobeOf};
+ghost use Rattle.branch.specs.Branch.{queueDepth, isSixBit, freshOf, isRestOf, isStrobeOf, allHigh, allLow};
 ghost use Rattle.branch.specs.Branch.{isQuietOf, hasFreePlaceOf, movedOf, appendedOf, stepOf, isWellFormedOf};
 ghost use Rattle.branch.specs.declared.Phase.the-variants.{Rest, Strobe, Drop};
 ghost use Rattle.branch.specs.declared.Slot.the-variants.{Nothing, Word};
@@ -84,6 +84,22 @@ impl Slot {
             Slot::Word(w) => w
         }
     }
+}
+
+// ---- the acknowledges of the enabled controllers
+
+// [Branches.2] [Branches.4]
+pub fn all_high(acks: Controllers, enabled: Controllers) -> bool
+    ensures { λ r. ⌜ r ≡ allHigh acks enabled ⌝ }
+{
+    acks & enabled == enabled
+}
+
+// [Branches.3] [Branches.4]
+pub fn all_low(acks: Controllers, enabled: Controllers) -> bool
+    ensures { λ r. ⌜ r ≡ allLow acks enabled ⌝ }
+{
+    acks & enabled == 0
 }
 
 // ---- parts of a step: each chooses one field
@@ -207,11 +223,10 @@ impl Branch {
         let phase = self.phase;
         let rest = phase.is_rest();
         let strobe = phase.is_strobe();
-        let high = acks & enabled;
         // the branch finishes its word; stands at Strobe after the move; stands at Drop after it
-        let finishes = strobe & (high == enabled);
+        let finishes = strobe & all_high(acks, enabled);
         let shows = (rest & (0 < len)) | (strobe & !finishes);
-        let drops = finishes | (!rest & !strobe & !(high == 0));
+        let drops = finishes | (!rest & !strobe & !all_low(acks, enabled));
         let first = (words % 256) as u8;
         let behind = words / 256;
         let next = Branch {
