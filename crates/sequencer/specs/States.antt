@@ -1,7 +1,7 @@
 -- What document 01 says of each state of the main sequencer, and of each outcome of a tick.
---     document 01    "The tick", Main; "The account of demand 3"
+--     document 01    "The tick", Main; "The account of demand 3"; document 02, N2
 --     factsOf        one table of facts, a row for each state
---     isIdle, isUndecided, isLoaded, isWait2   its columns by name
+--     isIdle, isUndecided, isLoaded, isWait2, isSyncHold   its columns by name
 --     outcomeWords   the word that an outcome loads; isCleared, isEvent, isTag: which outcome it is
 -- Own rules of 01 used here: none. Decisions: none. Left out: nothing.
 -- Assumes nothing.
@@ -25,20 +25,22 @@ pub record StateFacts : Type 0 where
   pub loaded : Bool
   -- [Spoiled.1c]
   pub wait2 : Bool
+  -- [State.5] a sync word is loaded and its wait has not ended
+  pub syncHold : Bool
 
-abbrev facts : (idle undecided loaded wait2 : Bool) → StateFacts
-facts i u l w = record { idle = i; undecided = u; loaded = l; wait2 = w }
+abbrev facts : (idle undecided loaded wait2 syncHold : Bool) → StateFacts
+facts i u l w h = record { idle = i; undecided = u; loaded = l; wait2 = w; syncHold = h }
 
--- a state            idle  undecided loaded wait2
+-- a state            idle  undecided loaded wait2 sync hold
 abbrev pub factsOf : State → StateFacts
-factsOf Idle = facts true false false false
-factsOf Delay = facts false true false false
-factsOf Wait2 = facts false true false true
-factsOf Wait3 = facts false true false false
-factsOf Front = facts false true false false
-factsOf Space = facts false false true false
-factsOf SyncHold = facts false false true false
-factsOf Clear = facts false false false false
+factsOf Idle = facts true false false false false
+factsOf Delay = facts false true false false false
+factsOf Wait2 = facts false true false true false
+factsOf Wait3 = facts false true false false false
+factsOf Front = facts false true false false false
+factsOf Space = facts false false true false false
+factsOf SyncHold = facts false false true false true
+factsOf Clear = facts false false false false false
 
 abbrev pub isIdle : State → Bool
 isIdle g = factsOf g .idle
@@ -51,6 +53,9 @@ isLoaded g = factsOf g .loaded
 
 abbrev pub isWait2 : State → Bool
 isWait2 g = factsOf g .wait2
+
+abbrev pub isSyncHold : State → Bool
+isSyncHold g = factsOf g .syncHold
 
 -- ---- the outcomes of a tick
 

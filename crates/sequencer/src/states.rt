@@ -1,7 +1,7 @@
 // The states of main, and what a tick decides of an event (document 01, "The tick", Main). The definitions are in
 // specs/States.antt.
 ghost use mathlib.Core.Path.{_≡_};
-ghost use Rattle.sequencer.specs.States.{isIdle, isLoaded, isWait2, isEvent};
+ghost use Rattle.sequencer.specs.States.{isIdle, isLoaded, isWait2, isSyncHold, isEvent};
 
 pub enum State {
     Idle,
@@ -59,6 +59,22 @@ impl State {
             State::Front => false,
             State::Space => false,
             State::SyncHold => false,
+            State::Clear => false,
+        }
+    }
+
+    // [State.5] a sync word is loaded and its wait has not ended
+    pub fn is_sync_hold(self) -> bool
+        ensures { λ r. ⌜ r ≡ isSyncHold self ⌝ }
+    {
+        match self {
+            State::Idle => false,
+            State::Delay => false,
+            State::Wait2 => false,
+            State::Wait3 => false,
+            State::Front => false,
+            State::Space => false,
+            State::SyncHold => true,
             State::Clear => false,
         }
     }
