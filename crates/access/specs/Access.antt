@@ -1,9 +1,9 @@
 -- What a register write that is carried out changes, and what a read gives.
---     document 01     "Registers"
+--     document 01     "Registers"; document 02, N2
 --     writtenOf       the record after the write: csrWrittenOf for the CSR, settingWrittenOf for registers 1–16
 --     storedOf        the stored value: settingOf for registers 1–16
 -- A value is cut to the width of its place; one that does not fit never comes this far ([Declines.2d]).
--- Own rules of 01 used here: none. Decisions: none. Left out: nothing.
+-- Own rules of 01 used here: none. Decisions: none. Left out: STATE's bits, in state.
 -- Assumes nothing.
 use Prim.Native.Nat.{ℕ, _%_, _^_}
 use Rattle.bits.specs.Notation.{_▷_}
@@ -12,7 +12,7 @@ use Rattle.registers.specs.declared.csr.CsrWrite.{CsrWrite}
 use Rattle.registers.specs.declared.csr.Request.{Request}
 use Rattle.registers.specs.declared.csr.Request.the-variants.{Nothing, Reset, Initialize}
 use Rattle.registers.specs.declared.register.Register.{Register}
-use Rattle.registers.specs.declared.register.Register.the-variants.{Csr, Scaler, Assign, Absent}
+use Rattle.registers.specs.declared.register.Register.the-variants.{Csr, Scaler, Assign, State, Absent}
 use Rattle.registers.specs.declared.register.Register.the-variants as register
 use Rattle.registers.specs.declared.register.Setting.{Setting}
 use Rattle.registers.specs.declared.register.Setting.the-variants.{Control, Factor, RocEnable, Interval, Timer}
@@ -24,6 +24,7 @@ use Rattle.branches.specs.ReadoutFields.{withRoc}
 use Rattle.core.specs.CoreFields.{withPrescalers, withCsr, withControl, withScalers, withTimers, withSync}
 use Rattle.supervisor.specs.Supervisor.{withReadout, onCore, initializedOf, resetOf}
 use Rattle.supervisor.specs.declared.Supervisor.{Supervisor}
+use Rattle.state.specs.State.{stateOf}
 
 -- ---- a CSR write, by what it asks of the record
 
@@ -48,12 +49,14 @@ settingWrittenOf (Timer n) v s = s ▷ onCore (withTimers (timers.writtenOf n v 
 
 -- ---- any register
 
--- [Registers.3] writing a scaler zeroes it; [CSRWrite.3] none of these touches memory, which is not part of the record
+-- [Registers.3] writing a scaler zeroes it; [State.8b] STATE is not written; [CSRWrite.3] none of these touches memory, which
+-- is not part of the record
 unfoldable pub writtenOf : Register → (v : ℕ) → Supervisor → Supervisor
 writtenOf Csr v s = csrWrittenOf v s
 writtenOf (register.Setting r) v s = settingWrittenOf r v s
 writtenOf (Scaler n) v s = s ▷ onCore (withScalers (scalers.zeroedOf n (s .core .scalers)))
 writtenOf Assign v s = s ▷ onCore (withScalers (s .core .scalers ▷ scalers.withAssign v))
+writtenOf State v s = s
 writtenOf Absent v s = s
 
 -- ---- a read
@@ -65,10 +68,11 @@ settingOf RocEnable s = s .readout .roc
 settingOf Interval s = s .core .sync .interval
 settingOf (Timer n) s = timers.storedOf n (s .core .timers)
 
--- [Declines.3b]
+-- [Declines.3b] [State.8a]
 unfoldable pub storedOf : Register → Supervisor → ℕ
 storedOf Csr s = s .core .csr .word
 storedOf (register.Setting r) s = settingOf r s
 storedOf (Scaler n) s = scalers.storedOf n (s .core .scalers)
 storedOf Assign s = s .core .scalers .assign
+storedOf State s = stateOf s
 storedOf Absent s = 0

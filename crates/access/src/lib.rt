@@ -1,5 +1,5 @@
-// What a register write that is carried out does to the record, and what a register reads (document 01, "Registers"). The
-// definitions are in specs/Access.antt.
+// What a register write that is carried out does to the record, and what a register reads (document 01, "Registers";
+// document 02, N2). The definitions are in specs/Access.antt; STATE has a crate of its own.
 ghost use mathlib.Core.Path.{_≡_};
 ghost use Rattle.branches.specs.ReadoutFields.{withRoc};
 ghost use Rattle.core.specs.CoreFields.{withScalers};
@@ -13,6 +13,7 @@ use registers::csr::Request;
 use registers::register::Register;
 use registers::register::Setting;
 use scalers::Scalers;
+use state::state;
 use supervisor::Supervisor;
 use sync::counter::SyncCounter;
 
@@ -100,6 +101,7 @@ pub fn written(s: Supervisor, register: Register, value: u32) -> Supervisor
             scalers.assign = value;
             scalers_written(s, scalers)
         }
+        Register::State => s,
         Register::Absent => s,
     }
 }
@@ -117,7 +119,7 @@ fn setting_value(s: Supervisor, setting: Setting) -> u32
     }
 }
 
-// [Declines.3b] the stored value
+// [Declines.3b] the stored value; [State.8a]
 pub fn stored(s: Supervisor, register: Register) -> u32
     ensures { λ r. ⌜ r ≡ storedOf register s ⌝ }
 {
@@ -127,6 +129,7 @@ pub fn stored(s: Supervisor, register: Register) -> u32
         Register::Setting(setting) => setting_value(s, setting),
         Register::Scaler(n) => core.scalers.stored(n),
         Register::Assign => core.scalers.assign,
+        Register::State => state(s),
         Register::Absent => 0,
     }
 }

@@ -23,6 +23,7 @@ use Rattle.sequencer.specs.declared.states.Outcome.the-variants.{Nothing, Clear
 use Rattle.scalers.specs.Scalers.{isSome}
 use Rattle.trigger.specs.declared.lines.Inputs.{Inputs}
 use Rattle.core.specs.Core as core
+use Rattle.core.specs.Spoiled.{allowsEightOf}
 use Rattle.core.specs.declared.CoreStep.{CoreStep}
 use Rattle.core.proofs.CoreEvents.{EventStep, event-step-balances, undecided-follows}
 use Rattle.core.proofs.CoreLaws as laws
@@ -126,7 +127,7 @@ module _ (memory : List ℕ) (x : Inputs) (s : Supervisor) where
     load-is-six-bit : isSixBitLoad (loadOf (step .outcome)) ≡ true
     load-is-six-bit = rw (load-words (step .outcome)) (laws.step-loads-six-bits room empty x memory (s .core))
 
-    load-has-room : isWordOf (loadOf (step .outcome)) ≡ true → core.allowsEightOf (s .core) ≡ false
+    load-has-room : isWordOf (loadOf (step .outcome)) ≡ true → allowsEightOf (s .core) ≡ false
     load-has-room h =
         laws.step-loads-below-eight room empty x memory (s .core) (unspoiled-is-sound s clean)
         (word-is-load (step .outcome) h)
@@ -140,7 +141,7 @@ module _ (memory : List ℕ) (x : Inputs) (s : Supervisor) where
     tick-keeps-ordering k h finished words v =
         let bs = s .readout .branches in
         let load = loadOf (step .outcome) in
-        let eight = core.allowsEightOf (s .core) in
+        let eight = allowsEightOf (s .core) in
         let fine = unspoiled-is-well-formed s clean in
         let after = branchAt (readout.branchesAfterOf acks enabled load bs) k in
         let done = wordsIn (getD (readout.sidesAfterOf acks enabled load bs) k noSide .finished) in

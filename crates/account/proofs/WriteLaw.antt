@@ -18,7 +18,7 @@ use Rattle.registers.specs.declared.csr.CsrWrite.{CsrWrite}
 use Rattle.registers.specs.declared.csr.Request.{Request}
 use Rattle.registers.specs.declared.csr.Request.the-variants.{Nothing, Reset, Initialize}
 use Rattle.registers.specs.declared.register.Register.{Register}
-use Rattle.registers.specs.declared.register.Register.the-variants.{Csr, Scaler, Assign, Absent}
+use Rattle.registers.specs.declared.register.Register.the-variants.{Csr, Scaler, Assign, State, Absent}
 use Rattle.registers.specs.declared.register.Register.the-variants as register
 use Rattle.registers.specs.declared.register.Setting.{Setting}
 use Rattle.registers.specs.declared.register.Setting.the-variants.{Control, Factor, RocEnable, Interval, Timer}
@@ -176,6 +176,7 @@ module _ {branches : ℕ} (s : Supervisor) (a : Account) (v : Invariant branches
   register-keeps-invariant (register.Setting r) h x = setting-keeps-invariant r h x
   register-keeps-invariant (Scaler n) h x = v
   register-keeps-invariant Assign h x = v
+  register-keeps-invariant State h x = v
   register-keeps-invariant Absent h x = v
 
   -- [Account.5]–[Account.9]

@@ -29,7 +29,7 @@ use Rattle.branch.specs.declared.Slot.{Slot}
 use Rattle.branch.specs.declared.Slot.the-variants.{Nothing, Word}
 use Rattle.branch.specs.declared.Branch.{Branch}
 use Rattle.branch.specs.declared.BranchStep.{BranchStep}
-use Rattle.branches.specs.ReadoutFields.{withBranches, branchAt}
+use Rattle.branches.specs.ReadoutFields.{withBranches, withAcks, branchAt}
 use Rattle.branches.specs.Readout.{freshBranches, emptiedOf, isQuietOf, stepAt, sideAfterOf, branchesAfterOf}
 use Rattle.branches.specs.Readout.{sidesAfterOf, linesAt, stepOf, gatheredOf, noSide, silentOf}
 use Rattle.branches.specs.Readout.{isSoundBranchOf, isWellFormedOf}
@@ -60,12 +60,12 @@ abbrev pub stepIn : (acks : ℕ) → Slot → Readout → (k : ℕ) → BranchSt
 stepIn acks load r = stepAt (linesAt acks) (linesAt (r .roc)) load (r .branches)
 
 pub gathered-of-four : (acks : ℕ) (load : Slot) (r : Readout) → length (r .branches) ≡ 4
-    → gatheredOf (stepIn acks load r 0) (stepIn acks load r 1) (stepIn acks load r 2) (stepIn acks load r 3) (r .roc)
+    → gatheredOf (stepIn acks load r 0) (stepIn acks load r 1) (stepIn acks load r 2) (stepIn acks load r 3) (r .roc) acks
     ≡ stepOf acks load r
 unfolding gatheredOf stepOf branchesAfterOf sidesAfterOf tabulate
 gathered-of-four acks load r h =
     ap (λ (k : ℕ). record {
-      next = r ▷ withBranches (tabulate k (λ i. stepIn acks load r i .next));
+      next = r ▷ withBranches (tabulate k (λ i. stepIn acks load r i .next)) ▷ withAcks acks;
       sides = tabulate k (λ i. sideAfterOf (stepIn acks load r i));
     }) (sym h)
 
@@ -76,7 +76,7 @@ is-nothing Nothing h = refl
 is-nothing (Word w) h = absurd (true≢false h)
 
 pub quiet-is-silent : (acks : ℕ) (load : Slot) (r : Readout) → length (r .branches) ≡ 4
-    → isQuietOf (r .branches) ≡ true → isWordOf load ≡ false → silentOf r ≡ stepOf acks load r
+    → isQuietOf (r .branches) ≡ true → isWordOf load ≡ false → silentOf acks r ≡ stepOf acks load r
 unfolding isQuietOf stepOf branchesAfterOf sidesAfterOf tabulate
 quiet-is-silent acks load r four quiet none =
     let n : ℕ = length (r .branches) in
@@ -87,7 +87,7 @@ quiet-is-silent acks load r four quiet none =
     let sides = tabulate-same n (λ k. sideAfterOf (stepIn acks load r k)) (λ k. noSide) (λ k h. ap sideAfterOf (silent k h)) in
     let nothing : tabulate n (λ k. noSide) ≡ noSide ∷ noSide ∷ noSide ∷ noSide ∷ [] = ap (λ (k : ℕ). tabulate k (λ i. noSide)) four in
     let next = branches ∙ tabulate-getD (r .branches) branch.freshOf in
-    sym (λ j. record { next = r ▷ withBranches (next j); sides = (sides ∙ nothing) j })
+    sym (λ j. record { next = r ▷ withBranches (next j) ▷ withAcks acks; sides = (sides ∙ nothing) j })
 
 -- ---- quiet branches are told by their places
 

@@ -1,6 +1,8 @@
--- The branches, and the readout: the branches of a module and their ROC enable register. All that the rest of the record
--- sees of the branches is here, and it is said of a list of any length, by place: the module has four.
+-- The branches, and the readout: the branches of a module, their ROC enable register and the acknowledges of the latest
+-- tick. All that the rest of the record sees of the branches is here, and it is said of a list of any length, by place: the
+-- module has four.
 --     document 01     "The tick", Branches; "The tick", Main for the two facts that main asks; Active; Spoiled
+--     document 02     N2, the kept acknowledges
 --     isEmptyOf       every branch is empty; hasRoomOf: every branch is below its depth
 --     isQuietOf       no branch keeps the record active
 --     branchesAfterOf, sidesAfterOf   a tick of all branches, and what each finished and shows; acks and enabled give the
@@ -8,7 +10,7 @@
 --     isWellFormedOf  no branch spoils the record
 --     linesAt, stepOf how a module's own two words give the lines of each branch, and its tick
 -- Place k is branch k + 1.
--- Own rules of 01 used here: none. Decisions: B4, B6, T4, A4. Left out: nothing.
+-- Own rules of 01 and 02 used here: none. Decisions: B4, B6, T4, A4, R4. Left out: nothing.
 -- Assumes nothing.
 use Prim.Native.Nat.{ℕ, _%_}
 use mathlib.Core.Bool.{Bool, not, _&&_, _||_}
@@ -23,7 +25,7 @@ use Rattle.branch.specs.declared.Slot.{Slot}
 use Rattle.branch.specs.declared.Slot.the-variants.{Nothing}
 use Rattle.branch.specs.declared.Branch.{Branch}
 use Rattle.branch.specs.declared.BranchStep.{BranchStep}
-use Rattle.branches.specs.ReadoutFields.{withBranches, branchAt}
+use Rattle.branches.specs.ReadoutFields.{withBranches, withAcks, branchAt}
 use Rattle.branches.specs.declared.Readout.{Readout}
 use Rattle.branches.specs.declared.Side.{Side}
 use Rattle.branches.specs.declared.ReadoutStep.{ReadoutStep}
@@ -38,11 +40,11 @@ moduleBranches = 4
 abbrev pub freshBranches : (n : ℕ) → List Branch
 freshBranches n = replicate n branch.freshOf
 
--- [Registers.4] no controller enabled, every branch fresh
+-- [Registers.4] no controller enabled, every branch fresh; [State.3] before any tick the kept acknowledges are low
 abbrev pub freshOf : (branches : ℕ) → Readout
-freshOf n = record { branches = freshBranches n; roc = 0 }
+freshOf n = record { branches = freshBranches n; roc = 0; acks = 0 }
 
--- [CSRWrite.2d] RESET empties the queues and idles the handshakes; ROC enable stays
+-- [CSRWrite.2d] RESET empties the queues and idles the handshakes; ROC enable and, by [State.3], the kept acknowledges stay
 unfoldable pub emptiedOf : Readout → Readout
 emptiedOf r = r ▷ withBranches (freshBranches (length (r .branches)))
 
@@ -91,18 +93,19 @@ sidesAfterOf acks enabled load bs = tabulate (length bs) (λ k. sideAfterOf (ste
 abbrev pub linesAt : (word k : ℕ) → ℕ
 linesAt word k = byteAt word k
 
+-- [State.3] a tick keeps its acknowledges
 unfoldable pub stepOf : (acks : ℕ) → Slot → Readout → ReadoutStep
 stepOf acks load r =
     record {
-      next = r ▷ withBranches (branchesAfterOf (linesAt acks) (linesAt (r .roc)) load (r .branches));
+      next = r ▷ withBranches (branchesAfterOf (linesAt acks) (linesAt (r .roc)) load (r .branches)) ▷ withAcks acks;
       sides = sidesAfterOf (linesAt acks) (linesAt (r .roc)) load (r .branches);
     }
 
 -- the same, put together from the steps of a module's four branches
-unfoldable pub gatheredOf : (s0 s1 s2 s3 : BranchStep) (roc : ℕ) → ReadoutStep
-gatheredOf s0 s1 s2 s3 roc =
+unfoldable pub gatheredOf : (s0 s1 s2 s3 : BranchStep) (roc acks : ℕ) → ReadoutStep
+gatheredOf s0 s1 s2 s3 roc acks =
     record {
-      next = record { branches = s0 .next ∷ s1 .next ∷ s2 .next ∷ s3 .next ∷ []; roc = roc };
+      next = record { branches = s0 .next ∷ s1 .next ∷ s2 .next ∷ s3 .next ∷ []; roc = roc; acks = acks };
       sides = sideAfterOf s0 ∷ sideAfterOf s1 ∷ sideAfterOf s2 ∷ sideAfterOf s3 ∷ [];
     }
 
@@ -110,8 +113,8 @@ gatheredOf s0 s1 s2 s3 roc =
 abbrev pub noSide : Side
 noSide = record { finished = Nothing; shown = Nothing }
 
-abbrev pub silentOf : Readout → ReadoutStep
-silentOf r = record { next = r; sides = noSide ∷ noSide ∷ noSide ∷ noSide ∷ [] }
+abbrev pub silentOf : (acks : ℕ) → Readout → ReadoutStep
+silentOf acks r = record { next = r ▷ withAcks acks; sides = noSide ∷ noSide ∷ noSide ∷ noSide ∷ [] }
 
 -- ---- what of the branches spoils a record
 

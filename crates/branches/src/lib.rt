@@ -1,5 +1,5 @@
-// The readout: the four branches of a module and their ROC enable register (document 01, "The tick", Branches). The
-// rest of the record sees the branches through these tests alone, and they see it through the word to load.
+// The readout: the four branches of a module, their ROC enable register and the acknowledges of the latest tick (document
+// 01, "The tick", Branches; document 02, N2). The rest of the record sees the branches through these tests alone, and they see it through the word to load.
 // The definitions are in specs/Readout.antt, over any number of branches.
 ghost use mathlib.Core.Path.{_≡_};
 ghost use lib.ListN.{length};
@@ -12,11 +12,15 @@ use branch::Branch;
 use branch::BranchStep;
 use branch::Slot;
 
+mod handshakes;
+
 pub struct Readout {
     // place k is branch k + 1
     pub branches: [Branch; 4],
     // register 10
     pub roc: u32,
+    // of the latest tick that ran, laid out as register 10
+    pub acks: u32,
 }
 
 // What a branch finished and what it shows after the tick.
@@ -50,8 +54,15 @@ fn side_after(s: BranchStep) -> Side
     Side { finished, shown }
 }
 
-fn gathered(s0: BranchStep, s1: BranchStep, s2: BranchStep, s3: BranchStep, roc: u32) -> ReadoutStep
-    ensures { λ r. ⌜ r ≡ gatheredOf s0 s1 s2 s3 roc ⌝ }
+fn gathered(
+    s0: BranchStep,
+    s1: BranchStep,
+    s2: BranchStep,
+    s3: BranchStep,
+    roc: u32,
+    acks: u32,
+) -> ReadoutStep
+    ensures { λ r. ⌜ r ≡ gatheredOf s0 s1 s2 s3 roc acks ⌝ }
 {
     let b0 = s0.next;
     let b1 = s1.next;
@@ -60,6 +71,7 @@ fn gathered(s0: BranchStep, s1: BranchStep, s2: BranchStep, s3: BranchStep, roc:
     let next = Readout {
         branches: [b0, b1, b2, b3],
         roc,
+        acks,
     };
     ReadoutStep {
         next,
@@ -98,6 +110,7 @@ impl Readout {
         Readout {
             branches: [b, b, b, b],
             roc: 0,
+            acks: 0,
         }
     }
 
@@ -108,7 +121,7 @@ impl Readout {
         Readout::fresh()
     }
 
-    // [CSRWrite.2d] RESET
+    // [CSRWrite.2d] [State.3] RESET
     pub fn emptied(self) -> Readout
         ensures { λ r. ⌜ r ≡ emptiedOf self ⌝ }
     {
@@ -116,6 +129,7 @@ impl Readout {
         Readout {
             branches: [b, b, b, b],
             roc: self.roc,
+            acks: self.acks,
         }
     }
 
@@ -169,19 +183,22 @@ impl Readout {
         Readout {
             branches: [rebuilt(b0), rebuilt(b1), rebuilt(b2), rebuilt(b3)],
             roc: self.roc,
+            acks: self.acks,
         }
     }
 
     // Nothing moves: every branch is quiet and nothing is loaded.
-    fn silent(self) -> ReadoutStep
-        ensures { λ r. ⌜ r ≡ silentOf self ⌝ }
+    fn silent(self, acks: u32) -> ReadoutStep
+        ensures { λ r. ⌜ r ≡ silentOf acks self ⌝ }
     {
+        let mut next = self.rebuilt();
+        next.acks = acks;
         let none = Side {
             finished: Slot::Nothing,
             shown: Slot::Nothing,
         };
         ReadoutStep {
-            next: self.rebuilt(),
+            next,
             sides: [none, none, none, none],
         }
     }
@@ -200,15 +217,15 @@ impl Readout {
         let s1 = b1.step(ack[1], on[1], load);
         let s2 = b2.step(ack[2], on[2], load);
         let s3 = b3.step(ack[3], on[3], load);
-        gathered(s0, s1, s2, s3, self.roc)
+        gathered(s0, s1, s2, s3, self.roc, acks)
     }
 
-    // [Branches.5] a tick of every branch, with the word to load
+    // [Branches.5] [State.3] a tick of every branch, with the word to load
     pub fn step(self, acks: u32, load: Slot) -> ReadoutStep
         ensures { λ r. ⌜ r ≡ stepOf acks load self ⌝ }
     {
         if self.is_quiet() & !load.is_word() {
-            return self.silent();
+            return self.silent(acks);
         }
         self.stepped(acks, load)
     }

@@ -43,7 +43,7 @@ use Rattle.trigger.proofs.LatchLaws.{latch-is-one, accepted-is-ready}
 use Rattle.trigger.proofs.BlindTimeLaws.{rejected-starts-count, blind-is-not-over, count-falls, unready-loses-all}
 use Rattle.core.specs.Core.{resetOf, isRunning, pulsedOf, isReadyOf, latchedOf}
 use Rattle.core.specs.Core.{cycleStepOf, mainStepOf, userStepOf, settledOf, stepOf}
-use Rattle.core.specs.Core.{allowsEightOf, isSoundOf}
+use Rattle.core.specs.Spoiled.{allowsEightOf, isSoundOf}
 use Rattle.core.specs.declared.Core.{Core}
 use Rattle.core.proofs.CoreEvents.{EventStep, accepts, tags, goesOn}
 use Rattle.core.proofs.CoreParts.{idle-is-named, ready-is-idle, ready-wants-no-sync, blind-is-not-ready}

@@ -41,7 +41,7 @@ use Rattle.trigger.specs.declared.lines.Lines.{Lines}
 use Rattle.trigger.specs.declared.latch.Latch.{Latch}
 use Rattle.core.specs.Core.{isUninhibited, isReadyOf, isOpenOf}
 use Rattle.core.specs.Core.{testsOf, cycleStepOf, mainStepOf, userStepOf}
-use Rattle.core.specs.Core.{allowsEightOf, bankClauses, registerClauses, sequencerClauses, isSoundOf}
+use Rattle.core.specs.Spoiled.{allowsEightOf, bankClauses, registerClauses, sequencerClauses, isSoundOf}
 use Rattle.core.specs.declared.Core.{Core}
 
 -- ---- the state Idle

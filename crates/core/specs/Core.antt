@@ -1,23 +1,22 @@
 -- The core: all of the record but the branches, which it sees through two facts. A tick of it: pulses, ready, main and user
 -- sync; the latch, and what their moves change besides, are in trigger.
---     document 01    "The tick"; "When a call is declined", Spoiled; Active; document 02, N1
+--     document 01    "The tick"; Active; document 02, N1, N2
 --     isReadyOf      the ready rule
 --     mainStepOf, userStepOf   what main and the user sync do
 --     settledOf, stepOf   the core after all of them, with what the tick reports; a tick of the core
 --     freshOf, resetOf   the core at power-up, and after RESET
 --     linesOutOf     the lines out
---     isActiveOf, allowsEightOf, isSoundOf   its part of the active rule and of the spoiled rule, clause by clause in three groups
+--     isActiveOf     its part of the active rule
 -- [Tick.2]: each part below is a function of the record as the tick found it, and of nothing that another part changed.
--- Own rules of 01 used here: none. Decisions: T1, T2, T4, T8, A2, A4, F4. Left out: nothing.
+-- Own rules of 01 used here: none. Decisions: T1, T2, T4, T8, R4, A4, F4. Left out: the spoiled rule, in Spoiled.
 -- Assumes nothing.
 use Prim.Native.Nat.{ℕ, _+_, _*_, _%_}
 use mathlib.Core.Bool.{Bool, not, _&&_, _||_}
-use mathlib.Core.List.{List, [], _∷_, _++_}
+use mathlib.Core.List.{List}
 use Rattle.bits.specs.Notation.{if_then_else_, _▷_}
-use Rattle.bits.specs.Bits.{oneIfOf, allTrue}
+use Rattle.bits.specs.Bits.{oneIfOf}
 use Rattle.registers.specs.Csr as csr
 use Rattle.registers.specs.Control as control
-use Rattle.registers.specs.Registers.{isValidControl, isValidAssign}
 use Rattle.registers.specs.declared.csr.Csr.{Csr}
 use Rattle.prescaler.specs.Prescaler as prescaler
 use Rattle.prescaler.specs.declared.Prescaled.{Prescaled}
@@ -27,7 +26,7 @@ use Rattle.sync.specs.UserSync as user
 use Rattle.sync.specs.declared.user.UserStep.{UserStep}
 use Rattle.sequencer.specs.MemoryWord.{isOkWord}
 use Rattle.sequencer.specs.MainFields.{quiet}
-use Rattle.sequencer.specs.States.{isIdle, isLoaded}
+use Rattle.sequencer.specs.States.{isIdle}
 use Rattle.sequencer.specs.MainSequencer as main
 use Rattle.sequencer.specs.declared.main_sequencer.Tests.{Tests}
 use Rattle.sequencer.specs.declared.main_sequencer.MainStep.{MainStep}
@@ -35,6 +34,7 @@ use Rattle.scalers.specs.Scalers as scalers
 use Rattle.trigger.specs.Lines.{hasStrobe, hasPass2, hasFail2, hasPass3, hasFail3, hasFrontBusy, hasInhibit}
 use Rattle.trigger.specs.Latch.{wordAtOf, latchOf, masksOf}
 use Rattle.trigger.specs.BlindTime as blind
+use Rattle.trigger.specs.Latest as latest
 use Rattle.trigger.specs.Effects.{csrAfterOf, syncAfterOf, outcomeOf, signalsOf}
 use Rattle.trigger.specs.declared.lines.Lines.{Lines}
 use Rattle.trigger.specs.declared.lines.Inputs.{Inputs}
@@ -57,11 +57,12 @@ freshOf =
       timers = timers.freshOf;
       sync = counter.freshOf;
       blind = blind.freshOf;
+      latest = latest.freshOf;
       user = user.freshOf;
     }
 
 -- [CSRWrite.2d] the sequencers idle, scalers and sync count 0, every prescale counter loaded; the CSR's own bits are
--- cleared by the write; [Blind.3] the blind count 0
+-- cleared by the write; [Blind.3] the blind count 0; [State.3] what is kept of the latest tick stays
 unfoldable pub resetOf : Core → Core
 resetOf c =
     c ▷ withPrescalers (prescaler.reloadedOf (c .prescalers)) ▷ withScalers (scalers.resetOf (c .scalers))
@@ -132,7 +133,7 @@ userStepOf empty c = user.stepOf (csr.wantsUserSync (c .csr)) (isIdle (c .main .
 
 -- ---- the core put together again
 
--- [Tick.3]
+-- [Tick.3] [State.3]
 unfoldable pub settledOf : Lines → Prescaled → Latch → MainStep → UserStep → Core → CoreStep
 settledOf l p latch m u c =
     record {
@@ -145,6 +146,7 @@ settledOf l p latch m u c =
         timers = c .timers;
         sync = syncAfterOf (csr.enablesSync (c .csr)) m u (c .sync);
         blind = blind.afterOf (latch .rejected) (c .blind);
+        latest = latest.keptOf l latch;
         user = u .next;
       };
       masks = masksOf p latch;
@@ -164,7 +166,7 @@ stepOf room empty x memory c =
     (mainStepOf room empty (x .lines) (latchedOf x memory c) (wordAtOf memory (pulsedOf x c .passed)) c)
     (userStepOf empty c) c
 
--- ---- lines out, and what the record's other rules ask of the core
+-- ---- lines out, and what the active rule asks of the core
 
 -- [Answer.1] the raised lines in bits 0–4, clear, CSR bit 5, and the accept pattern in bits 8–15
 unfoldable pub linesOutOf : Core → ℕ
@@ -179,31 +181,3 @@ abbrev pub isActiveOf : Core → Bool
 isActiveOf c =
     csr.isGo (c .csr)
     || (not (isIdle (c .main .state)) || (c .user .waiting || csr.wantsUserSync (c .csr)))
-
--- [Spoiled.1f] a queue may hold eight words: main at Space or Sync hold, or a user sync waits
-abbrev pub allowsEightOf : Core → Bool
-allowsEightOf c = isLoaded (c .main .state) || c .user .waiting
-
--- ---- the clauses of the spoiled rule on the core, in three groups: all hold in a record that is not spoiled
-
--- [Spoiled.1e] [Spoiled.1a] the prescalers
-abbrev pub bankClauses : Core → List Bool
-bankClauses c = prescaler.hasCountersWithinOf (c .prescalers) ∷ prescaler.hasValidFactorsOf (c .prescalers) ∷ []
-
--- [Spoiled.1a] the other registers
-abbrev pub registerClauses : Core → List Bool
-registerClauses c =
-    csr.isValidStoredCsr (c .csr) ∷ isValidControl (c .control .word) ∷ isValidAssign (c .scalers .assign) ∷ []
-
--- [Spoiled.1b] [Spoiled.1c] [Spoiled.1i] main; [Spoiled.1h] the sync count; [Spoiled.1k] the user sync; [Blind.3] the
--- blind count
-abbrev pub sequencerClauses : Core → List Bool
-sequencerClauses c =
-    main.isWellFormedOf (c .main)
-    ∷ counter.isWithin (c .sync)
-    ∷ (not (c .user .waiting) || isIdle (c .main .state))
-    ∷ blind.isWithin (c .blind)
-    ∷ []
-
-unfoldable pub isSoundOf : Core → Bool
-isSoundOf c = allTrue (bankClauses c ++ registerClauses c ++ sequencerClauses c)

@@ -1,14 +1,13 @@
 // The core of the supervisor: all of the record but the branches (document 01, "The tick"). It sees the branches
-// through two facts, every one empty and every one below its depth. The definitions are in specs/Core.antt.
+// through two facts, every one empty and every one below its depth. The definitions are in specs/Core.antt; the spoiled rule
+// is in spoiled.
 ghost use mathlib.Core.Path.{_≡_};
-ghost use Rattle.core.specs.Core.{freshOf, resetOf, pulsedOf, isOpenOf, testsOf, cycleStepOf, mainStepOf};
-ghost use Rattle.core.specs.Core.{settledOf, stepOf, linesOutOf, isActiveOf, allowsEightOf, isSoundOf};
+ghost use Rattle.core.specs.Core.{freshOf, resetOf, pulsedOf, isOpenOf, isReadyOf, testsOf};
+ghost use Rattle.core.specs.Core.{cycleStepOf, mainStepOf, settledOf, stepOf, linesOutOf, isActiveOf};
 use prescaler::Prescaled;
 use prescaler::Prescalers;
 use registers::control::Control;
 use registers::csr::Csr;
-use registers::register::is_valid_assign;
-use registers::register::is_valid_control;
 use scalers::Scalers;
 use sequencer::main_sequencer::MainSequencer;
 use sequencer::main_sequencer::MainStep;
@@ -29,8 +28,11 @@ use trigger::latch::Masks;
 use trigger::latch::latch_of;
 use trigger::latch::masks_of;
 use trigger::latch::word_at;
+use trigger::latest::Latest;
 use trigger::lines::Inputs;
 use trigger::lines::Lines;
+
+mod spoiled;
 
 pub struct Core {
     // registers 2–9 and their counters
@@ -45,6 +47,7 @@ pub struct Core {
     // register 11 and the sync count
     pub sync: SyncCounter,
     pub blind: BlindTime,
+    pub latest: Latest,
     pub user: UserSync,
 }
 
@@ -68,17 +71,19 @@ impl Core {
             timers: Timers::fresh(),
             sync: SyncCounter::fresh(),
             blind: BlindTime::fresh(),
+            latest: Latest::fresh(),
             user: UserSync::fresh(),
         }
     }
 
-    // [CSRWrite.2d] [Blind.3] RESET, but for the CSR's own bits
+    // [CSRWrite.2d] [Blind.3] [State.3] RESET, but for the CSR's own bits
     pub fn reset(self) -> Core
         ensures { λ r. ⌜ r ≡ resetOf self ⌝ }
     {
         let csr = self.csr;
         let control = self.control;
         let timers = self.timers;
+        let latest = self.latest;
         Core {
             prescalers: self.prescalers.reloaded(),
             csr,
@@ -88,6 +93,7 @@ impl Core {
             timers,
             sync: self.sync.zeroed(),
             blind: BlindTime::fresh(),
+            latest,
             user: UserSync::fresh(),
         }
     }
@@ -115,6 +121,15 @@ impl Core {
             & (!csr.wants_user_sync()
                 & (!user.waiting
                     & (!lines.has_front_busy() & (uninhibited & self.blind.is_over()))))
+    }
+
+    // [Ready.1]
+    pub fn is_ready(self, lines: Lines) -> bool
+        ensures { λ r. ⌜ r ≡ isReadyOf lines self ⌝ }
+    {
+        let main = self.main;
+        let state = main.state;
+        state.is_idle() & self.is_open(lines)
     }
 
     // [Main.6] [Main.7] [Main.8] [Main.10] [Main.13] [Main.14] [Main.15] the tests of main, at the risen age
@@ -161,6 +176,7 @@ impl Core {
             timers,
             sync: sync_after(self.sync, csr.enables_sync(), m, u),
             blind: self.blind.after(latch.rejected),
+            latest: Latest::kept(lines, latch),
             user,
         };
         CoreStep {
@@ -205,7 +221,7 @@ impl Core {
         let lines = x.lines;
         let p = self.pulsed(x);
         let word = word_at(memory, p.passed);
-        let latch = latch_of(state.is_idle() & self.is_open(lines), word, p.passed);
+        let latch = latch_of(self.is_ready(lines), word, p.passed);
         let m = self.main_step(lines, latch, word, room, empty);
         let u = user.step(csr.wants_user_sync(), state.is_idle(), empty);
         self.settled(lines, p, latch, m, u)
@@ -234,41 +250,5 @@ impl Core {
         let state = main.state;
         let user = self.user;
         csr.is_go() | (!state.is_idle() | (user.waiting | csr.wants_user_sync()))
-    }
-
-    // [Spoiled.1f] a queue may hold eight words
-    pub fn allows_eight(self) -> bool
-        ensures { λ r. ⌜ r ≡ allowsEightOf self ⌝ }
-    {
-        let main = self.main;
-        let state = main.state;
-        let user = self.user;
-        state.is_loaded() | user.waiting
-    }
-
-    // [Spoiled.1a] [Spoiled.1e] [Spoiled.1h] [Spoiled.1k] [Blind.3] and main's, in the order of the definition
-    pub fn is_sound(self) -> bool
-        ensures { λ r. ⌜ r ≡ isSoundOf self ⌝ }
-    {
-        let csr = self.csr;
-        let control = self.control;
-        let main = self.main;
-        let state = main.state;
-        let user = self.user;
-        let sync = self.sync;
-        let prescalers = self.prescalers;
-        let counters = prescalers.has_counters_within();
-        let factors = prescalers.has_valid_factors();
-        let stored = csr.is_valid_stored_csr();
-        let enables = is_valid_control(control.word);
-        let assign = is_valid_assign(self.scalers.assign);
-        let sequencer = main.is_well_formed();
-        let count = sync.is_within();
-        let waits = !user.waiting | state.is_idle();
-        let blind = self.blind.is_within();
-        counters
-            & (factors
-                & (stored
-                    & (enables & (assign & (sequencer & (count & (waits & (blind & true))))))))
     }
 }

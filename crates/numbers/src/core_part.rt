@@ -25,6 +25,8 @@ use timers::Count20;
 use timers::Count40;
 use timers::Timers;
 use trigger::blind::BlindTime;
+use trigger::latest::Latest;
+use trigger::lines::Lines;
 
 pub fn core_in(numbers: &[u64]) -> Core {
     let csr = Csr {
@@ -39,6 +41,13 @@ pub fn core_in(numbers: &[u64]) -> Core {
     let blind = BlindTime {
         count: byte_at(numbers, 50),
     };
+    let lines = Lines {
+        word: word_at(numbers, 51),
+    };
+    let latest = Latest {
+        lines,
+        latched: bool_at(numbers, 52),
+    };
     Core {
         prescalers: prescalers_in(numbers),
         csr,
@@ -48,6 +57,7 @@ pub fn core_in(numbers: &[u64]) -> Core {
         timers: timers_in(numbers),
         sync: sync_in(numbers),
         blind,
+        latest,
         user,
     }
 }
@@ -72,6 +82,8 @@ fn put_single(out: &mut [u64], core: Core) {
     put(out, 1, wide(core.control.word));
     put(out, 37, wide_bool(core.user.waiting));
     put(out, 50, wide8(core.blind.count));
+    put(out, 51, wide(core.latest.lines.word));
+    put(out, 52, wide_bool(core.latest.latched));
 }
 
 // ---- the prescalers: 2–9, 20–27

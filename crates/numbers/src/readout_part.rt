@@ -16,12 +16,14 @@ pub fn readout_in(numbers: &[u64]) -> Readout {
             branch_at(numbers, 47),
         ],
         roc: word_at(numbers, 10),
+        acks: word_at(numbers, 53),
     }
 }
 
 pub fn put_readout(out: &mut [u64], readout: Readout) {
     let bs = readout.branches;
     put(out, 10, wide(readout.roc));
+    put(out, 53, wide(readout.acks));
     put_branch(out, 38, bs[0]);
     put_branch(out, 41, bs[1]);
     put_branch(out, 44, bs[2]);

@@ -102,6 +102,7 @@ fn record_in(table: &[u64]) -> Supervisor {
     let readout = Readout {
         branches: [b, b, b, b],
         roc: register_at(table, 10),
+        acks: 0,
     };
     Supervisor {
         readout,
@@ -171,12 +172,16 @@ fn folded(sum: u64, answer: Answer, verdict: Verdict) -> u64 {
     )
 }
 
-// Scalers, CSR and sync count of the last record.
+// Scalers, CSR, sync count and what is kept of the latest tick, of the last record.
 fn closed(sum: u64, s: Supervisor) -> u64 {
     let core = s.core;
     let scalers = wide(core.scalers.scaler0) | wide(core.scalers.scaler1) << 32;
     let rest = wide(core.csr.word) | (core.sync.count as u64) << 32;
-    fold(fold(sum, scalers), rest)
+    let latest = core.latest;
+    let kept = wide(latest.lines.word)
+        | wide(bits::one_if(latest.latched)) << 8
+        | wide(s.readout.acks) << 32;
+    fold(fold(fold(sum, scalers), rest), kept)
 }
 
 // ---- the loop

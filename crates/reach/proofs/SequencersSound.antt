@@ -35,7 +35,8 @@ use Rattle.trigger.specs.declared.lines.Inputs.{Inputs}
 use Rattle.trigger.specs.declared.latch.Latch.{Latch}
 use Rattle.trigger.proofs.LatchLaws.{accepted-is-ready}
 use Rattle.trigger.proofs.BlindTimeLaws.{after-keeps-within}
-use Rattle.core.specs.Core.{pulsedOf, isReadyOf, latchedOf, sequencerClauses}
+use Rattle.core.specs.Core.{pulsedOf, isReadyOf, latchedOf}
+use Rattle.core.specs.Spoiled.{sequencerClauses}
 use Rattle.core.specs.Core.{cycleStepOf, mainStepOf, userStepOf, settledOf, stepOf}
 use Rattle.core.proofs.CoreParts.{idle-cycle-is-quiet}
 use Rattle.core.specs.declared.Core.{Core}

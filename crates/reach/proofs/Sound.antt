@@ -29,7 +29,7 @@ use Rattle.branch.specs.declared.Branch.{Branch}
 use Rattle.branches.specs.ReadoutFields.{branchAt}
 use Rattle.branches.specs.Readout as readout
 use Rattle.trigger.specs.BlindTime.{blindTicks}
-use Rattle.core.specs.Core.{bankClauses, registerClauses, sequencerClauses, isSoundOf, allowsEightOf}
+use Rattle.core.specs.Spoiled.{bankClauses, registerClauses, sequencerClauses, isSoundOf, allowsEightOf}
 use Rattle.core.specs.declared.Core.{Core}
 use Rattle.supervisor.specs.Supervisor.{isSpoiledOf}
 use Rattle.supervisor.specs.declared.Supervisor.{Supervisor}

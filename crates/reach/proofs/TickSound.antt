@@ -41,6 +41,7 @@ use Rattle.trigger.specs.declared.lines.Inputs.{Inputs}
 use Rattle.trigger.specs.declared.latch.Latch.{Latch}
 use Rattle.trigger.proofs.LatchLaws.{accepted-is-ready}
 use Rattle.core.specs.Core as core
+use Rattle.core.specs.Spoiled.{allowsEightOf}
 use Rattle.core.proofs.CoreParts.{isLoad, main-has-no-tag}
 use Rattle.core.proofs.CoreLaws as coreLaws
 use Rattle.core.specs.declared.Core.{Core}
@@ -112,7 +113,7 @@ module _ (room empty : Bool) (x : Inputs) (memory : List ℕ) (c : Core) where
 
   -- [Spoiled.1f]
   load-allows-eight : isLoad (core.stepOf room empty x memory c .outcome) ≡ true
-      → core.allowsEightOf (core.stepOf room empty x memory c .next) ≡ true
+      → allowsEightOf (core.stepOf room empty x memory c .next) ≡ true
   unfolding core.stepOf core.settledOf
   load-allows-eight = go (core.userStepOf empty c .tag) refl
     where
@@ -142,7 +143,7 @@ module _ (room empty : Bool) (x : Inputs) (memory : List ℕ) (c : Core) where
       go false e = refl
 
   -- [Main.13] [Main.14] [Usersync.2] where eight words are no longer allowed, the branches passed the test
-  leaves-by-test : core.allowsEightOf c ≡ true → core.allowsEightOf (core.stepOf room empty x memory c .next) ≡ false
+  leaves-by-test : allowsEightOf c ≡ true → allowsEightOf (core.stepOf room empty x memory c .next) ≡ false
       → (room || empty) ≡ true
   unfolding core.stepOf core.settledOf core.testsOf
   leaves-by-test = go (c .user .waiting) (isLoaded (c .main .state)) refl refl
@@ -227,8 +228,8 @@ module _ (memory : List ℕ) (x : Inputs) (s : Supervisor) (ofType : OfType s)
           sequencers = tick-keeps-sequencers room empty x memory (s .core) (u .sequencers) (ofType .interval);
           branches = λ k h.
               let before = rw (laws.step-keeps-length acks enabled _ bs) at h in
-              branch-stays-sound acks enabled (core.allowsEightOf (s .core)) bs (u .branches) k before (step .outcome)
-              (core.allowsEightOf (step .next))
+              branch-stays-sound acks enabled (allowsEightOf (s .core)) bs (u .branches) k before (step .outcome)
+              (allowsEightOf (step .next))
               (coreLaws.step-loads-six-bits room empty x memory (s .core))
               (load-allows-eight room empty x memory (s .core))
               (coreLaws.step-loads-below-eight room empty x memory (s .core) (sound-test (s .core) bs u))

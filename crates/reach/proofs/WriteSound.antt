@@ -191,6 +191,7 @@ module _ (s : Supervisor) (ofType : OfType s) (u : Unspoiled (s .core) (s .reado
       with-scalers (scalers.zeroedOf n (s .core .scalers))
       (zeroed-keeps-assign n (s .core .scalers) (u .registers .assign))
   write-keeps-unspoiled register.Assign v valid = with-scalers (s .core .scalers ▷ scalers.withAssign v) valid
+  write-keeps-unspoiled register.State v valid = u
   write-keeps-unspoiled register.Absent v valid = u
 
   -- ---- and the types
@@ -221,4 +222,5 @@ module _ (s : Supervisor) (ofType : OfType s) (u : Unspoiled (s .core) (s .reado
   write-keeps-type (register.Setting r) v = setting-keeps-type r v
   write-keeps-type (register.Scaler n) v = record { eight = ofType .eight; interval = ofType .interval }
   write-keeps-type register.Assign v = record { eight = ofType .eight; interval = ofType .interval }
+  write-keeps-type register.State v = ofType
   write-keeps-type register.Absent v = ofType

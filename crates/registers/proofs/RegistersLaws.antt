@@ -24,7 +24,7 @@ use Rattle.registers.specs.Registers.{isValidInterval, isValidTimer, isV
 use Rattle.registers.specs.declared.register.Register.{Register}
 use Rattle.registers.specs.declared.register.Setting.{Setting}
 use Rattle.registers.specs.declared.register.Setting.the-variants.{Control, Factor, RocEnable, Interval, Timer}
-use Rattle.registers.specs.declared.register.Register.the-variants.{Csr, Scaler, Assign, Absent}
+use Rattle.registers.specs.declared.register.Register.the-variants.{Csr, Scaler, Assign, State, Absent}
 use Rattle.registers.specs.declared.register.Register.the-variants as register
 
 -- ---- no bit outside the register
@@ -69,6 +69,7 @@ pub data Named (n : ℕ) : Register → Type 0 where
   setting : (r : Setting) → Between 1 16 n → SettingInRange r → Named n (register.Setting r)
   scaler : (k : ℕ) → Between 17 18 n → Between 0 1 k → Named n (Scaler k)
   assign : n ≡ 19 → Named n Assign
+  state : n ≡ lastRegister → Named n State
   absent : lastRegister < n → Named n Absent
 
 pub number-names : (n : ℕ) → Named n (numberedOf n)
@@ -88,9 +89,11 @@ number-names n =
     let above16 : 17 ≤ n = ltb-false n 17 from17 in
     by-cond (Named n) (ltb n 19) (λ e. let below : n < 19 = ltb-true n 19 e in scaler (n - 17) (record { least = omega arith; most = omega arith }) (record { least = omega arith; most = omega arith })) (λ from19.
     let above18 : 19 ≤ n = ltb-false n 19 from19 in
-    by-cond (Named n) (eqb n lastRegister) (λ e. assign (eqb-true n lastRegister e)) (λ not19.
-    let above19 : (n ≡ 19 → ⊥) = eqb-false n lastRegister not19 in
-    absent (omega arith)))))))))
+    by-cond (Named n) (eqb n 19) (λ e. assign (eqb-true n 19 e)) (λ not19.
+    let above19 : (n ≡ 19 → ⊥) = eqb-false n 19 not19 in
+    by-cond (Named n) (eqb n lastRegister) (λ e. state (eqb-true n lastRegister e)) (λ not20.
+    let above20 : (n ≡ 20 → ⊥) = eqb-false n lastRegister not20 in
+    absent (omega arith))))))))))
 
 -- ---- what follows of a number's register
 
@@ -103,20 +106,33 @@ past-last-is-absent n past = go (number-names n)
     go (setting r at range) = absurd (omega (arith, at .most))
     go (scaler k at range) = absurd (omega (arith, at .most))
     go (assign e) = absurd (omega arith)
+    go (state e) = absurd (omega arith)
     go (absent h) = refl
 
--- [Declines.2b] [Declines.2c] [Declines.3a] 0–19 are read and written, 1–16 are protected
-pub facts-by-number : (n : ℕ) → factsOf (numberedOf n) ≡ facts (leb n 19) (leb n 19) (leb 1 n && leb n 16)
+-- [Declines.2b] [Declines.2c] [Declines.3a] 0–19 are read and written, 1–16 are protected; [State.8a] [State.8b] 20 is read
+pub facts-by-number : (n : ℕ) → factsOf (numberedOf n) ≡ facts (leb n 20) (leb n 19) (leb 1 n && leb n 16)
 facts-by-number n = go (number-names n)
   where
-    go : {r : Register} → Named n r → factsOf r ≡ facts (leb n 19) (leb n 19) (leb 1 n && leb n 16)
+    go : {r : Register} → Named n r → factsOf r ≡ facts (leb n 20) (leb n 19) (leb 1 n && leb n 16)
     go (csr e) = rw e
     go (setting r at range) =
-        rw (le-leb 1 n (at .least), le-leb n 16 (at .most), le-leb n 19 (omega (arith, at .most)))
+        rw (
+          le-leb 1 n (at .least),
+          le-leb n 16 (at .most),
+          le-leb n 19 (omega (arith, at .most)),
+          le-leb n 20 (omega (arith, at .most)),
+        )
     go (scaler k at range) =
-        rw (le-leb 1 n (omega (arith, at .least)), lt-leb n 16 (at .least), le-leb n 19 (omega (arith, at .most)))
+        rw (
+          le-leb 1 n (omega (arith, at .least)),
+          lt-leb n 16 (at .least),
+          le-leb n 19 (omega (arith, at .most)),
+          le-leb n 20 (omega (arith, at .most)),
+        )
     go (assign e) = rw e
-    go (absent h) = rw (le-leb 1 n (omega arith), lt-leb n 16 (omega arith), lt-leb n 19 h)
+    go (state e) = rw e
+    go (absent h) =
+        rw (le-leb 1 n (omega arith), lt-leb n 16 (omega arith), lt-leb n 19 (omega arith), lt-leb n 20 h)
 
 -- [Registers.1] the factors, timers and scalers that there are
 abbrev pub InRange : Register → Type 0
@@ -124,6 +140,7 @@ InRange Csr = Unit {0}
 InRange (register.Setting r) = SettingInRange r
 InRange (Scaler n) = Between 0 1 n
 InRange Assign = Unit {0}
+InRange State = Unit {0}
 InRange Absent = Unit {0}
 
 pub numbered-is-in-range : (n : ℕ) → InRange (numberedOf n)
@@ -134,4 +151,5 @@ numbered-is-in-range n = go (number-names n)
     go (setting r at range) = range
     go (scaler k at range) = range
     go (assign e) = tt
+    go (state e) = tt
     go (absent h) = tt

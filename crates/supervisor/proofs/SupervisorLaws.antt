@@ -13,7 +13,7 @@ use Rattle.branches.specs.Readout as readout
 use Rattle.sequencer.specs.States.{outcomeWords}
 use Rattle.sequencer.specs.declared.states.Outcome.{Outcome}
 use Rattle.sequencer.specs.declared.states.Outcome.the-variants.{Nothing, Cleared, Event, Tag}
-use Rattle.core.specs.Core as core
+use Rattle.core.specs.Spoiled.{allowsEightOf, isSoundOf}
 use Rattle.core.proofs.CoreParts.{isLoad}
 use Rattle.supervisor.specs.Supervisor.{loadOf, isSpoiledOf}
 use Rattle.supervisor.specs.declared.Supervisor.{Supervisor}
@@ -43,10 +43,10 @@ no-load (Tag w) h = absurd (true≢false h)
 
 module _ (s : Supervisor) (clean : isSpoiledOf s ≡ false) where
   abbrev wellFormed : Bool
-  wellFormed = readout.isWellFormedOf (core.allowsEightOf (s .core)) (s .readout .branches)
+  wellFormed = readout.isWellFormedOf (allowsEightOf (s .core)) (s .readout .branches)
 
   abbrev sound : Bool
-  sound = core.isSoundOf (s .core)
+  sound = isSoundOf (s .core)
 
   unspoiled : (wellFormed && sound) ≡ true
   unfolding isSpoiledOf

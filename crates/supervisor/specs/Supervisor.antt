@@ -22,6 +22,7 @@ use Rattle.sequencer.specs.declared.states.Outcome.the-variants.{Cleared, Event
 use Rattle.sequencer.specs.declared.states.Outcome.the-variants as outcome
 use Rattle.trigger.specs.declared.lines.Inputs.{Inputs}
 use Rattle.core.specs.Core as core
+use Rattle.core.specs.Spoiled.{allowsEightOf, isSoundOf}
 use Rattle.core.specs.declared.Core.{Core}
 use Rattle.core.specs.declared.CoreStep.{CoreStep}
 use Rattle.supervisor.specs.declared.Supervisor.{Supervisor}
@@ -62,7 +63,7 @@ isActiveOf s = core.isActiveOf (s .core) || not (readout.isQuietOf (s .readout .
 -- [Spoiled.1d] [Spoiled.1f] [Spoiled.1g] of the branches; the other clauses of the core
 unfoldable pub isSpoiledOf : Supervisor → Bool
 isSpoiledOf s =
-    not (readout.isWellFormedOf (core.allowsEightOf (s .core)) (s .readout .branches) && core.isSoundOf (s .core))
+    not (readout.isWellFormedOf (allowsEightOf (s .core)) (s .readout .branches) && isSoundOf (s .core))
 
 -- ---- the tick
 

@@ -2,4 +2,5 @@
 pub mod Lines
 pub mod Latch
 pub mod BlindTime
+pub mod Latest
 pub mod Effects

@@ -23,7 +23,11 @@ returns-4 c = rw (c .enum-told2 .given .1)
 
 returns-5 : tie.Need-returns-5
 unfolding storedOf
-returns-5 c = rw (c .enum-told3 .given .1)
+returns-5 c = rw (c .state .ensures, c .before .enum-told3 .given .1)
+
+returns-6 : tie.Need-returns-6
+unfolding storedOf
+returns-6 c = rw (c .enum-told4 .given .1)
 
 pub stored-spec : {M : Type 1} → statement M
 stored-spec =
@@ -36,8 +40,11 @@ stored-spec =
     (λ c κs. search needs)
     (λ c. search needs)
     (λ c. search needs)
+    (λ c κs. search needs)
+    (λ c. search needs)
     returns
     returns-2
     returns-3
     returns-4
-    returns-5)
+    returns-5
+    returns-6)

@@ -30,6 +30,10 @@ returns-5 : tie.Need-returns-5
 unfolding writtenOf
 returns-5 c = rw (c .enum-told3 .given .1)
 
+returns-6 : tie.Need-returns-6
+unfolding writtenOf
+returns-6 c = rw (c .enum-told4 .given .1)
+
 pub written-spec : {M : Type 1} → statement M
 written-spec =
     tie.close
@@ -44,8 +48,10 @@ written-spec =
     (λ c. search needs)
     (λ c κs. search needs)
     (λ c. search needs)
+    (λ c. search needs)
     returns
     returns-2
     returns-3
     returns-4
-    returns-5)
+    returns-5
+    returns-6)

@@ -1,6 +1,6 @@
 -- `core::Core::is_sound` meets its contract: its tests are the clauses of the definition, one for one.
 -- First written by tools/prove.py. Assumes nothing.
-use Rattle.core.specs.Core.{isSoundOf}
+use Rattle.core.specs.Spoiled.{isSoundOf}
 use borrow.Author.Needs.{needs}
 use Rattle.core.proofs.Core.is_sound.Statement.{statement}
 use Rattle.core.proofs.Core.is_sound.Tie as tie

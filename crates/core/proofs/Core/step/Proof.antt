@@ -11,21 +11,19 @@ returns c =
     rw (
       c .settled .ensures,
       c .before .step .ensures,
-      c .before .before .is-idle2 .ensures,
+      c .before .before .is-idle .ensures,
       c .before .before .before .wants-user-sync .ensures,
       c .before .before .before .before .main-step .ensures,
       c .before .before .before .before .before .latch-of .ensures,
-      c .before .before .before .before .before .before .is-open .ensures,
-      c .before .before .before .before .before .before .before .is-idle .ensures,
-      c .before .before .before .before .before .before .before .before .word-at .ensures,
-      c .before .before .before .before .before .before .before .before .before .pulsed .ensures,
+      c .before .before .before .before .before .before .is-ready .ensures,
+      c .before .before .before .before .before .before .before .word-at .ensures,
+      c .before .before .before .before .before .before .before .before .pulsed .ensures,
     )
 
 pub step-spec : {M : Type 1} → statement M
 step-spec =
     tie.close
     (tie.spec
-    (λ c κs. search needs)
     (λ c κs. search needs)
     (λ c κs. search needs)
     (λ c κs. search needs)

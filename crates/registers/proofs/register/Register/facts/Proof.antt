@@ -19,6 +19,9 @@ returns-4 c = rw (c .allowed4 .ensures, c .before .enum-told4 .given .1)
 returns-5 : tie.Need-returns-5
 returns-5 c = rw (c .allowed5 .ensures, c .before .enum-told5 .given .1)
 
+returns-6 : tie.Need-returns-6
+returns-6 c = rw (c .allowed6 .ensures, c .before .enum-told6 .given .1)
+
 pub facts-spec : {M : Type 1} → statement M
 facts-spec =
     tie.close
@@ -33,8 +36,11 @@ facts-spec =
     (λ c κs. search needs)
     (λ c. search needs)
     (λ c κs. search needs)
+    (λ c. search needs)
+    (λ c κs. search needs)
     returns
     returns-2
     returns-3
     returns-4
-    returns-5)
+    returns-5
+    returns-6)
