@@ -1,0 +1,74 @@
+-- What a record keeps of the latest tick is what a bystander finds in the log.
+--     end-keeps-kept       however a call ends
+--     every-run-keeps-the-latest-tick   after every list of calls
+-- Assumes nothing.
+use Prim.Native.Nat.{ℕ}
+use mathlib.Core.Path.{_≡_, refl, ap, _∙_}
+use mathlib.Core.List.{List}
+use Rattle.registers.specs.Csr as csr
+use Rattle.registers.specs.Registers.{numberedOf}
+use Rattle.registers.specs.declared.csr.CsrWrite.{CsrWrite}
+use Rattle.registers.specs.declared.csr.Request.{Request}
+use Rattle.registers.specs.declared.csr.Request.the-variants.{Nothing, Reset, Initialize}
+use Rattle.registers.specs.declared.register.Setting.{Setting}
+use Rattle.registers.specs.declared.register.Setting.the-variants.{Control, Factor, RocEnable, Interval, Timer}
+use Rattle.registers.specs.declared.register.Register.{Register}
+use Rattle.registers.specs.declared.register.Register.the-variants.{Csr, Scaler, Assign, State, Absent}
+use Rattle.registers.specs.declared.register.Register.the-variants as register
+use Rattle.branches.specs.Readout as readout
+use Rattle.core.specs.Core as core
+use Rattle.supervisor.specs.Supervisor.{freshOf, initializedOf, resetOf, tickedOf, joinedOf, coreStepOf, readoutStepOf}
+use Rattle.supervisor.specs.declared.Supervisor.{Supervisor}
+use Rattle.access.specs.Access.{afterCsrOf, csrWrittenOf, settingWrittenOf, writtenOf}
+use Rattle.state.specs.State.{keptIn}
+use Rattle.declines.specs.Answers.{Reply}
+use Rattle.declines.specs.Calls.{markedOf}
+use Rattle.declines.specs.Runs.{Ask, Call, Entry, logOf, recordAfter}
+use Rattle.declines.specs.Kept.{nothingKept, keptAfterRequest, keptAfterWrite, keptAfter, keptOf, KeepsTheLatestTick}
+use Rattle.declines.proofs.CallEnds.{End, refused, refusedActive, wrote, gave, stored, ran}
+use Rattle.declines.proofs.CallEnds.{Chain, stop, then, run-is-chain}
+
+module _ (s : Supervisor) where
+  -- [CSRWrite.1] [CSRWrite.2d]
+  request-keeps : (r : Request) (w : CsrWrite) → keptIn (afterCsrOf r w s) ≡ keptAfterRequest r (keptIn s)
+  unfolding initializedOf resetOf freshOf core.freshOf core.resetOf readout.emptiedOf
+  request-keeps Initialize w = refl
+  request-keeps Reset w = refl
+  request-keeps Nothing w = refl
+
+  setting-keeps : (r : Setting) (v : ℕ) → keptIn (settingWrittenOf r v s) ≡ keptIn s
+  unfolding settingWrittenOf
+  setting-keeps Control v = refl
+  setting-keeps (Factor input) v = refl
+  setting-keeps RocEnable v = refl
+  setting-keeps Interval v = refl
+  setting-keeps (Timer n) v = refl
+
+  write-keeps : (r : Register) (v : ℕ) → keptIn (writtenOf r v s) ≡ keptAfterWrite r v (keptIn s)
+  unfolding writtenOf csrWrittenOf csr.writtenOf
+  write-keeps Csr v = request-keeps (csr.requestedOf v) _
+  write-keeps (register.Setting r) v = setting-keeps r v
+  write-keeps (Scaler n) v = refl
+  write-keeps Assign v = refl
+  write-keeps State v = refl
+  write-keeps Absent v = refl
+
+  -- [State.3]
+  pub end-keeps-kept : {memory : List ℕ} {a : Ask} {reply : Reply} {next : Supervisor} → End memory s a reply next
+      → keptIn next ≡ keptAfter a reply (keptIn s)
+  unfolding markedOf tickedOf joinedOf coreStepOf readoutStepOf core.stepOf core.settledOf readout.stepOf
+  end-keeps-kept (refused a n h) = refl
+  end-keeps-kept (refusedActive a) = refl
+  end-keeps-kept (wrote number v valid) = write-keeps (numberedOf number) v
+  end-keeps-kept (gave a v) = refl
+  end-keeps-kept (stored place word) = refl
+  end-keeps-kept (ran x clean) = refl
+
+chain-keeps-kept : {log : List Entry} {s last : Supervisor} → Chain log s last → keptIn last ≡ keptOf log (keptIn s)
+chain-keeps-kept stop = refl
+chain-keeps-kept (then {log = log} {s = s} end rest) = chain-keeps-kept rest ∙ ap (keptOf log) (end-keeps-kept s end)
+
+-- [State.3]
+pub every-run-keeps-the-latest-tick : (branches : ℕ) → KeepsTheLatestTick branches
+unfolding freshOf core.freshOf
+every-run-keeps-the-latest-tick n calls = chain-keeps-kept (run-is-chain calls (freshOf n))
