@@ -2,6 +2,7 @@
 pub mod Opened
 pub mod Examples
 pub mod BlindExamples
+pub mod StateExamples
 pub mod Script
 pub mod Misreadings
 pub mod SessionsLaws

@@ -18,12 +18,14 @@ use Rattle.branch.specs.Branch as branch
 use Rattle.branches.specs.Readout as readout
 use Rattle.trigger.specs.Effects as effects
 use Rattle.core.specs.Core as core
+use Rattle.core.specs.Spoiled as spoiled
 use Rattle.supervisor.specs.Supervisor as supervisor
+use Rattle.state.specs.State as state
 use Rattle.access.specs.Access as access
 use Rattle.declines.specs.Calls as calls
 use Rattle.declines.specs.Runs as runs
 use Rattle.bench.specs.Asks as asks
 
 unfoldable pub machine : Bool
-unfolding bits.maskOf bits.tabulate bits.every bytes.bytes bytes.isSameOf control.countedOf csr.clearedIfOf csr.markedOf csr.syncHoldEndedOf csr.userSyncEndedOf csr.syncHoldEndedIfOf csr.userSyncEndedIfOf csr.requestedOf csr.setThenClearedOf csr.changedOf csr.writtenOf registers.numberedOf prescaler.withFactorOf prescaler.factorOf prescaler.stepOf prescaler.hasCountersWithinOf prescaler.hasValidFactorsOf timers.writtenOf timers.storedOf counter.afterLoadOf user.stepOf memory.classInOf main.agedOf main.acceptedOf main.stepOf main.isWellFormedOf scalers.countsOf scalers.countedOf branch.movedOf branch.appendedOf branch.stepOf branch.isWellFormedOf readout.emptiedOf readout.isEmptyOf readout.hasRoomOf readout.isQuietOf readout.branchesAfterOf readout.sidesAfterOf readout.stepOf readout.isWellFormedOf core.freshOf core.resetOf core.pulsedOf core.testsOf core.mainStepOf effects.csrAfterOf effects.syncAfterOf core.settledOf core.stepOf core.linesOutOf core.isSoundOf supervisor.freshOf supervisor.initializedOf supervisor.resetOf supervisor.isActiveOf supervisor.isSpoiledOf supervisor.coreStepOf supervisor.readoutStepOf supervisor.joinedOf supervisor.tickedOf calls.markedOf calls.writeRegisterOf calls.readRegisterOf calls.writeMemoryOf calls.memoryAfterOf calls.readMemoryOf calls.tickOf runs.freshSession access.csrWrittenOf access.settingWrittenOf access.writtenOf access.settingOf access.storedOf asks.times
+unfolding bits.maskOf bits.tabulate bits.every bytes.bytes bytes.isSameOf control.countedOf csr.clearedIfOf csr.markedOf csr.syncHoldEndedOf csr.userSyncEndedOf csr.syncHoldEndedIfOf csr.userSyncEndedIfOf csr.requestedOf csr.setThenClearedOf csr.changedOf csr.writtenOf registers.numberedOf prescaler.withFactorOf prescaler.factorOf prescaler.stepOf prescaler.hasCountersWithinOf prescaler.hasValidFactorsOf timers.writtenOf timers.storedOf counter.afterLoadOf user.stepOf memory.classInOf main.agedOf main.acceptedOf main.stepOf main.isWellFormedOf scalers.countsOf scalers.countedOf branch.movedOf branch.appendedOf branch.stepOf branch.isWellFormedOf readout.emptiedOf readout.isEmptyOf readout.hasRoomOf readout.isQuietOf readout.branchesAfterOf readout.sidesAfterOf readout.stepOf readout.isWellFormedOf core.freshOf core.resetOf core.pulsedOf core.testsOf core.mainStepOf effects.csrAfterOf effects.syncAfterOf core.settledOf core.stepOf core.linesOutOf spoiled.isSoundOf supervisor.freshOf supervisor.initializedOf supervisor.resetOf supervisor.isActiveOf supervisor.isSpoiledOf supervisor.coreStepOf supervisor.readoutStepOf supervisor.joinedOf supervisor.tickedOf calls.markedOf calls.writeRegisterOf calls.readRegisterOf calls.writeMemoryOf calls.memoryAfterOf calls.readMemoryOf calls.tickOf runs.freshSession access.csrWrittenOf access.settingWrittenOf access.writtenOf access.settingOf state.stateBitsOf state.stateOf access.storedOf asks.times
 machine = true

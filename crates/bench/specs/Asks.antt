@@ -8,7 +8,7 @@ use lib.ListN.{replicate}
 use Rattle.trigger.specs.Lines.{inputsOf}
 use Rattle.declines.specs.Runs.{Ask, writeRegister, readRegister, writeMemory, tick}
 
--- ---- the registers, as [Registers.1] numbers them
+-- ---- the registers, as [Registers.1] and [State.1] number them
 
 abbrev pub csr : ℕ
 csr = 0
@@ -37,6 +37,10 @@ scaler1 = 18
 abbrev pub assign : ℕ
 assign = 19
 
+-- [State.1]
+abbrev pub state : ℕ
+state = 20
+
 -- ---- bits of their values, and lines
 
 -- [Control.1]
@@ -46,7 +50,7 @@ enable input = 2 ^ input
 abbrev pub openPrescales : ℕ
 openPrescales = 2 ^ 15
 
--- [CSR.1] bits 0, 3, 4 and 6
+-- [CSR.1] bits 0, 3, 4, 6, 10 and 11
 abbrev pub go : ℕ
 go = 2 ^ 0
 
@@ -59,9 +63,18 @@ enableSync = 2 ^ 4
 abbrev pub useT1 : ℕ
 useT1 = 2 ^ 6
 
--- [CSRWrite.2a] [CSRWrite.2d] of a written value: bit 14 is RESET, bit 16 clears GO
+abbrev pub lockBranch4 : ℕ
+lockBranch4 = 2 ^ 10
+
+abbrev pub overrideInhibit : ℕ
+overrideInhibit = 2 ^ 11
+
+-- [CSRWrite.1] [CSRWrite.2a] [CSRWrite.2d] of a written value: bit 14 is RESET, bit 15 INITIALIZE, bit 16 clears GO
 abbrev pub reset : ℕ
 reset = 2 ^ 14
+
+abbrev pub initialize : ℕ
+initialize = 2 ^ 15
 
 abbrev pub clearGo : ℕ
 clearGo = 2 ^ 16
@@ -74,12 +87,24 @@ lateFail = 2 ^ 17
 abbrev pub firstController : ℕ
 firstController = 2 ^ 0
 
--- [Tick.1] lines 1 and 2
+-- [Tick.1] lines 1 to 6
 abbrev pub pass2 : ℕ
 pass2 = 2 ^ 1
 
 abbrev pub fail2 : ℕ
 fail2 = 2 ^ 2
+
+abbrev pub pass3 : ℕ
+pass3 = 2 ^ 3
+
+abbrev pub fail3 : ℕ
+fail3 = 2 ^ 4
+
+abbrev pub frontBusy : ℕ
+frontBusy = 2 ^ 5
+
+abbrev pub inhibit : ℕ
+inhibit = 2 ^ 6
 
 -- ---- one ask
 
@@ -125,9 +150,12 @@ event input = pulse input ∷ ticks 3
 abbrev pub inEvent : (word : ℕ) → List ℕ
 inEvent word = 0 ∷ 0 ∷ word ∷ 0 ∷ []
 
--- [Memory.2] words that are OK, with code 5: in class 1, in class 2
+-- [Memory.2] words that are OK, with code 5: in class 1, in class 2, in class 3
 abbrev pub class1 : ℕ
 class1 = 0x0053
 
 abbrev pub class2 : ℕ
 class2 = 0x0055
+
+abbrev pub class3 : ℕ
+class3 = 0x0059

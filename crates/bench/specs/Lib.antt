@@ -3,3 +3,4 @@ pub mod Asks
 pub mod Sessions
 pub mod Bench
 pub mod Blind
+pub mod State

@@ -4,13 +4,14 @@
 --     repliesTo     its replies to a session
 --     repliesLogged   the replies that a bystander logs of the same asks in a run; `claims` says that they are the same
 --     lost, rejected, passed, cleared, loaded, finished1, shown1   what is looked at in a tick
---     readOut, decline   and in the replies to other asks
+--     readOut, highBits, decline   and in the replies to other asks
 -- Own rules of 01 used here: none. Decisions: none. Left out: nothing.
 -- Assumes nothing.
-use Prim.Native.Nat.{ℕ, _+_}
+use Prim.Native.Nat.{ℕ, zero, suc, _+_}
 use mathlib.Core.List.{List, [], _∷_}
 use lib.ListN.{getD}
-use Rattle.bits.specs.Bits.{oneIfOf}
+use Rattle.bits.specs.Notation.{if_then_else_}
+use Rattle.bits.specs.Bits.{bitAt, oneIfOf}
 use Rattle.branch.specs.Slots.{wordOf}
 use Rattle.branches.specs.Readout.{noSide}
 use Rattle.sequencer.specs.States.{isCleared, outcomeWords}
@@ -96,6 +97,17 @@ readOut (declined n) = []
 readOut done = []
 readOut (value v) = v ∷ []
 readOut (ticked a) = []
+
+-- its bits that are 1, by their numbers: those of n bits from bit i on
+abbrev pub highFrom : (n i v : ℕ) → List ℕ
+highFrom zero i v = []
+highFrom (suc n) i v = if bitAt v i then i ∷ highFrom n (suc i) v else highFrom n (suc i) v
+
+abbrev pub highBits : Reply → List ℕ
+highBits (declined n) = []
+highBits done = []
+highBits (value v) = highFrom 32 0 v
+highBits (ticked a) = []
 
 -- [Declines.1a]
 abbrev pub decline : Reply → List ℕ

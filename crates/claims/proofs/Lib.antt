@@ -2,3 +2,4 @@
 pub mod ExamplesLogged
 pub mod Proved
 pub mod PartsProved
+pub mod RequestsProved

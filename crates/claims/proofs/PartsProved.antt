@@ -7,8 +7,6 @@ use Rattle.prescaler.proofs.PrescalerLoadLaws as loads
 use Rattle.sync.proofs.SyncLaws as sync
 use Rattle.sequencer.proofs.MainLaws as main
 use Rattle.branch.proofs.BranchLaws as branch
-use Rattle.core.proofs.CoreLaws as core
-use Rattle.reach.proofs.Sound as sound
 use Rattle.declines.proofs.CallsLaws as calls
 use Rattle.claims.specs.Parts.{FactorFitsItsWidth, TimerFitsItsWidth, AssignDeclines40To4F, AssignDeclines60Up}
 use Rattle.claims.specs.Parts.{CsrBitAfterWrite, ClearWins, PulseHasOneFate, LoadStartsPassCount}
@@ -19,7 +17,6 @@ use Rattle.claims.specs.Parts.{NoneEnabledIsHigh, NoneEnabledIsLow, Inte
 use Rattle.claims.specs.Parts.{PastLastIsAbsent, FactsByNumber, PlaceForEachPattern, ResetClearsBits0To3}
 use Rattle.claims.specs.Parts.{WriteLeavesOtherPlaces, MarksSetStatusBits, SyncHoldEndsARun}
 use Rattle.claims.specs.Parts.{UserSyncEndsARun, FirstPulseIsScaledAfterReset, ZeroIsPassed, Inputs9To12Pass}
-use Rattle.claims.specs.Parts.{FastResetBlinds, BlindTickLosesAll, ResetEndsBlindTime, BlindAbove2IsSpoiled}
 
 pub factor-fits-its-width : FactorFitsItsWidth
 factor-fits-its-width = registers.factor-fits-iff-no-bit-outside
@@ -101,18 +98,6 @@ fail-beats-pass3 = main.fail-beats-pass3
 
 pub to-idle-zeroes : ToIdleZeroes
 to-idle-zeroes = main.to-idle-zeroes
-
-pub fast-reset-blinds : FastResetBlinds
-fast-reset-blinds = core.fast-reset-blinds
-
-pub blind-tick-loses-all : BlindTickLosesAll
-blind-tick-loses-all = core.blind-tick-loses-all
-
-pub reset-ends-blind-time : ResetEndsBlindTime
-reset-ends-blind-time = core.reset-ends-blind-time
-
-pub blind-above-2-is-spoiled : BlindAbove2IsSpoiled
-blind-above-2-is-spoiled = sound.blind-above-2-is-spoiled
 
 pub interval-one-is-due : IntervalOneIsDue
 interval-one-is-due = sync.interval-one-is-due

@@ -6,13 +6,12 @@ use Rattle.declines.proofs.CallsLaws.{declines-in-order, refusal-leaves, refusa
 use Rattle.account.proofs.Theorem.{every-run-balances, any-two-branches}
 use Rattle.reach.proofs.Never.{call-keeps-unspoiled, never-spoiled}
 use Rattle.bench.proofs.Examples.{bench-examples}
-use Rattle.bench.proofs.BlindExamples.{blind-examples}
 use Rattle.claims.proofs.ExamplesLogged.{answers-are-logged}
 use Rattle.reader.proofs.ReaderLaws.{lines-end, lines-append}
 use Rattle.script.proofs.ScriptLaws.{answers-so-far, answer-is-line, answers-count}
 use Rattle.claims.specs.Claims.{RefusesInOrder, RefusalLeavesRecord, RefusalLeavesMemory, SpoiledRecordRefuses}
 use Rattle.claims.specs.Claims.{EveryRunBalances, EveryRunBalancesAtAnySize, AnyTwoBranchesAgree, NoRunIsSpoiled}
-use Rattle.claims.specs.Claims.{EveryCallKeepsUnspoiled, BenchExamples, BlindExamples, ExamplesAreLogged}
+use Rattle.claims.specs.Claims.{EveryCallKeepsUnspoiled, BenchExamples, ExamplesAreLogged}
 use Rattle.claims.specs.Claims.{LastNewlineMayLack, AnswersDoNotLookAhead, LinesDoNotLookAhead}
 use Rattle.claims.specs.Claims.{EveryAnswerIsOneLine, OneAnswerEachLine}
 
@@ -60,9 +59,6 @@ every-call-keeps-unspoiled = call-keeps-unspoiled
 
 pub bench : BenchExamples
 bench = bench-examples
-
-pub blind : BlindExamples
-blind = blind-examples
 
 pub examples-are-logged : ExamplesAreLogged
 examples-are-logged asks = answers-are-logged asks freshSession

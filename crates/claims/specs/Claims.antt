@@ -30,7 +30,6 @@ use Rattle.declines.specs.Refusals.{refusalsOf, firstOf, statusBit, Leaves}
 use Rattle.account.specs.Demand3.{Demand3, wordsOf}
 use Rattle.reach.specs.NeverSpoiled.{OfType, KeepsUnspoiled, NeverSpoiled}
 use Rattle.bench.specs.Bench.{examples, allRight}
-use Rattle.bench.specs.Blind.{blindExamples}
 use Rattle.bench.specs.Sessions.{repliesTo, repliesLogged}
 use Rattle.text.specs.Text.{newline}
 use Rattle.reader.specs.Reader.{linesOf}
@@ -119,10 +118,6 @@ EveryCallKeepsUnspoiled = (c : Call) (s : Supervisor) → OfType s → isSpoiled
 -- [Bench.1]–[Bench.9] The bench examples P1–P9, as one statement over their table.
 abbrev pub BenchExamples : Type 0
 BenchExamples = allRight examples ≡ true
-
--- [Blind.2]–[Blind.4] The examples of the blind time, in the same form.
-abbrev pub BlindExamples : Type 0
-BlindExamples = allRight blindExamples ≡ true
 
 -- [Lab.8] What an example looks at are the replies that a bystander logs of a run of its calls.
 abbrev pub ExamplesAreLogged : Type 0

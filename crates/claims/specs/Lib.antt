@@ -1,3 +1,4 @@
 -- What is claimed. Assumes nothing.
 pub mod Claims
 pub mod Parts
+pub mod Requests

@@ -1,7 +1,7 @@
--- What is claimed of the parts, each by itself and for every value of its types: the rules of documents 01 and 02 that a part
--- keeps whatever stands around it. proofs/PartsProved.antt proves each by citing its law.
+-- What is claimed of the parts, each by itself and for every value of its types: the rules of document 01 that a part keeps
+-- whatever stands around it; those of document 02 are in Requests. proofs/PartsProved.antt proves each by citing its law.
 -- Assumes nothing.
-use Prim.Native.Nat.{ℕ, suc, _+_, _/_, _^_, _<_, _≤_}
+use Prim.Native.Nat.{ℕ, _+_, _/_, _^_, _<_, _≤_}
 use mathlib.Core.Path.{_≡_}
 use mathlib.Core.Bool.{Bool, true, false, not, _&&_, _||_}
 use mathlib.Core.List.{List, _++_}
@@ -30,17 +30,11 @@ use Rattle.sequencer.specs.MainSequencer as main
 use Rattle.sequencer.specs.States.{isIdle}
 use Rattle.sequencer.specs.declared.main_sequencer.MainSequencer.{MainSequencer}
 use Rattle.sequencer.specs.declared.main_sequencer.Tests.{Tests}
-use Rattle.scalers.specs.Scalers.{isSome}
 use Rattle.branch.specs.Branch as branch
 use Rattle.branch.specs.Slots.{wordsIn}
 use Rattle.branch.specs.declared.Branch.{Branch}
 use Rattle.branch.specs.declared.Phase.the-variants.{Strobe}
 use Rattle.branch.specs.declared.Slot.{Slot}
-use Rattle.trigger.specs.BlindTime.{LosesAll}
-use Rattle.trigger.specs.declared.lines.Inputs.{Inputs}
-use Rattle.core.specs.Core as core
-use Rattle.core.specs.declared.Core.{Core}
-use Rattle.supervisor.specs.Supervisor.{isSpoiledOf}
 use Rattle.supervisor.specs.declared.Supervisor.{Supervisor}
 use Rattle.declines.specs.Calls.{memoryPlaces, memoryAfterOf}
 
@@ -65,9 +59,10 @@ ControlFitsItsBits = (v : ℕ) → (isValidControl v ≡ true) ↔ NoBitOutsideO
 abbrev pub PastLastIsAbsent : Type 0
 PastLastIsAbsent = (n : ℕ) → lastRegister < n → numberedOf n ≡ Absent
 
--- [Declines.2b] [Declines.2c] [Declines.3a] Registers 0–19 are read and written, and 1–16 are protected while active.
+-- [Declines.2b] [Declines.2c] [Declines.3a] Registers 0–19 are read and written, and 1–16 are protected while active;
+-- [State.8a] [State.8b] 20 is read only.
 abbrev pub FactsByNumber : Type 0
-FactsByNumber = (n : ℕ) → factsOf (numberedOf n) ≡ facts (leb n 19) (leb n 19) (leb 1 n && leb n 16)
+FactsByNumber = (n : ℕ) → factsOf (numberedOf n) ≡ facts (leb n 20) (leb n 19) (leb 1 n && leb n 16)
 
 -- [Memory.1] The memory has a place for each pattern of the twelve inputs.
 abbrev pub PlaceForEachPattern : Type 0
@@ -179,30 +174,6 @@ abbrev pub ToIdleZeroes : Type 0
 ToIdleZeroes =
     (t : Tests) (m : MainSequencer) → isIdle (m .state) ≡ false → isIdle (main.stepOf t m .next .state) ≡ true
     → main.stepOf t m .next ≡ main.idleOf
-
--- ---- the blind time
-
--- [Blind.2] After a tick of the core that rejects a pattern, the blind count is 2.
-abbrev pub FastResetBlinds : Type 0
-FastResetBlinds =
-    (room empty : Bool) (x : Inputs) (memory : List ℕ) (c : Core)
-    → isSome (core.stepOf room empty x memory c .masks .rejected) ≡ true
-    → core.stepOf room empty x memory c .next .blind .count ≡ 2
-
--- [Blind.2] [Blind.4] A tick that starts with a blind count of k + 1 loses what passes, rejects and accepts nothing, and
--- leaves k.
-abbrev pub BlindTickLosesAll : Type 0
-BlindTickLosesAll =
-    (room empty : Bool) (x : Inputs) (memory : List ℕ) (c : Core) (k : ℕ) → c .blind .count ≡ suc k
-    → LosesAll (core.pulsedOf x c .passed) (core.stepOf room empty x memory c .masks)
-    × (core.stepOf room empty x memory c .next .blind .count ≡ k)
-
--- [Blind.3] RESET zeroes the count, and a count above 2 spoils a record.
-abbrev pub ResetEndsBlindTime : Type 0
-ResetEndsBlindTime = (c : Core) → core.resetOf c .blind .count ≡ 0
-
-abbrev pub BlindAbove2IsSpoiled : Type 0
-BlindAbove2IsSpoiled = (s : Supervisor) → 2 < s .core .blind .count → isSpoiledOf s ≡ true
 
 -- ---- syncs
 
