@@ -1,6 +1,6 @@
 //! The main sequencer's moves in a cycle.
 
-use super::{csr, line, word, Branch, MainState, Outcome, Supervisor, BRANCHES};
+use super::{csr, line, word, MainState, Outcome, Supervisor, BRANCHES};
 
 impl Supervisor {
     /// Main's move in a cycle, with the CSR and "all empty" of the tick's start.
@@ -47,14 +47,7 @@ impl Supervisor {
             }
             MainState::Space => {
                 // [Main.13]
-                let locked = |branch: usize| {
-                    start_csr & csr::ROC_LOCK != 0
-                        || (branch == BRANCHES - 1 && start_csr & csr::ROC_LOCK_BRANCH_4 != 0)
-                };
-                let below = |(b, branch): (usize, &Branch)| {
-                    branch.used < if locked(b) { Self::LOCKED_DEPTH } else { Self::DEPTH }
-                };
-                if self.branches.iter().enumerate().all(below) {
+                if (0..BRANCHES).all(|branch| self.is_below_depth(start_csr, branch)) {
                     self.idle_main();
                 }
             }

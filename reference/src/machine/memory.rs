@@ -18,9 +18,7 @@ impl Supervisor {
 
     /// The declines that memory write and read share; `error` is the status bit that decline 4 sets.
     fn memory_place(&mut self, words: usize, place: u32, error: u32) -> Result<usize, u8> {
-        if self.is_spoiled() {
-            return Err(decline::SPOILED);
-        }
+        self.not_spoiled()?;
         if words != MEMORY_WORDS {
             return Err(decline::LENGTH);
         }

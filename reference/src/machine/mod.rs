@@ -9,6 +9,7 @@ mod cycle;
 mod memory;
 mod names;
 mod registers;
+mod state;
 mod tick;
 
 pub use branch::{Branch, BranchState};
@@ -60,7 +61,8 @@ pub enum MainState {
 /// - `roc_enable` and `scalers`: all 32-bit values are taken by their writes [Registers.1] [Registers.3];
 /// - the states of main and branches: enums, so only the listed states exist;
 /// - `accept_pattern`: all eight bits are in use [Memory.2];
-/// - `late`, the raised lines and `user_sync_waiting`: plain yes or no, with no clause about them alone.
+/// - `late`, the raised lines and `user_sync_waiting`: plain yes or no, with no clause about them alone;
+/// - `kept_lines`, `latched` and `kept_acknowledges`: no clause speaks of them, odd lines included [State.3].
 #[derive(Clone, Debug, PartialEq, Eq, Hash)]
 pub struct Supervisor {
     pub csr: u32,
@@ -96,6 +98,12 @@ pub struct Supervisor {
     pub user_sync_waiting: bool,
     /// Ticks to come that are not ready after a rejected pattern. [Blind.2] [Blind.3]
     pub blind: u32,
+    /// The lines of the latest tick that ran, for STATE. [State.3]
+    pub kept_lines: u32,
+    /// Whether that tick latched a pattern, rejected or accepted. [State.3] [State.7]
+    pub latched: bool,
+    /// The acknowledges of that tick, enabled or not. [State.3]
+    pub kept_acknowledges: u32,
     pub branches: [Branch; BRANCHES],
 }
 
@@ -115,6 +123,8 @@ impl Supervisor {
     pub const SCALER_0: u32 = 17;
     pub const SCALER_1: u32 = 18;
     pub const ASSIGN: u32 = 19;
+    /// Read only. [State.8a] [State.8b]
+    pub const STATE: u32 = 20;
 
     /// Largest factor of inputs 1–4 and of inputs 5–8. [Widths.1]
     pub const WIDE_FACTOR: u32 = 0xF_FFFF;
@@ -163,6 +173,9 @@ impl Supervisor {
             sync_count: 0,
             user_sync_waiting: false,
             blind: 0,
+            kept_lines: 0,
+            latched: false,
+            kept_acknowledges: 0,
             branches: [Branch::fresh(), Branch::fresh(), Branch::fresh(), Branch::fresh()],
         }
     }
@@ -204,6 +217,15 @@ impl Supervisor {
         (stray != 0) | above | over | !is_listed(self.assign) | main | branches
     }
 
+    /// The decline that register and memory calls test first. [Declines.2a] [Declines.3a] [Declines.4a]
+    fn not_spoiled(&self) -> Result<(), u8> {
+        if self.is_spoiled() {
+            Err(decline::SPOILED)
+        } else {
+            Ok(())
+        }
+    }
+
     /// [Active.1]; the blind count is no part of it. [Open: T8]
     #[inline]
     pub fn is_active(&self) -> bool {
@@ -213,6 +235,25 @@ impl Supervisor {
             || sync_wanted(self.csr)
             || !self.branches.iter().all(Branch::is_quiet)
     }
+
+    /// Whether a branch has room for one more event, under the lock bits of this CSR. [Main.13]
+    #[inline]
+    fn is_below_depth(&self, csr: u32, branch: usize) -> bool {
+        let locked = csr & csr::ROC_LOCK != 0 || (branch == BRANCHES - 1 && csr & csr::ROC_LOCK_BRANCH_4 != 0);
+        self.branches[branch].used < if locked { Self::LOCKED_DEPTH } else { Self::DEPTH }
+    }
+}
+
+/// The ready rule, which the tick makes at its start and STATE at the read. [Ready.1] [Blind.2] [State.4a]
+#[inline]
+fn is_ready(csr: u32, main: MainState, waiting: bool, blind: bool, lines: u32) -> bool {
+    csr & csr::GO != 0
+        && main == MainState::Idle
+        && !waiting
+        && !sync_wanted(csr)
+        && !blind
+        && lines & line::FRONT_BUSY == 0
+        && (lines & line::INHIBIT == 0 || csr & csr::OVERRIDE_INHIBIT != 0)
 }
 
 /// A user sync is wanted: bit 2 or 3, with bit 4. [Ready.1]

@@ -6,7 +6,7 @@ pub mod decline {
     pub const SPOILED: u8 = 1;
     /// The lent memory has not 4,096 words.
     pub const LENGTH: u8 = 2;
-    /// Register number over 19, or memory place over 4,095.
+    /// Register number over 20, a write to STATE, or memory place over 4,095.
     pub const NUMBER: u8 = 3;
     /// The supervisor is active.
     pub const ACTIVE: u8 = 4;

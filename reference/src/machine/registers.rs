@@ -32,6 +32,11 @@ pub(super) const fn is_listed(assign: u32) -> bool {
     matches!(assign, 0x00..=0x3F | 0x50..=0x5F)
 }
 
+/// The registers that a write reaches: STATE is read only. [Declines.2b] [State.8b]
+const fn is_writable(number: u32) -> bool {
+    number <= Supervisor::ASSIGN
+}
+
 /// Whether a write of this value to this register (0–19) escapes decline 5. [Declines.2d]
 const fn is_taken(number: u32, value: u32) -> bool {
     value & !TAKEN_BITS[number as usize] == 0 && (number != Supervisor::ASSIGN || is_listed(value))
@@ -40,10 +45,8 @@ const fn is_taken(number: u32, value: u32) -> bool {
 impl Supervisor {
     /// Writes a register. Declines 1, 3, 4, 5 in this order. [Declines.2a]–[Declines.2d]
     pub fn write_register(&mut self, number: u32, value: u32) -> Result<(), u8> {
-        if self.is_spoiled() {
-            return Err(decline::SPOILED);
-        }
-        if number > Self::ASSIGN {
+        self.not_spoiled()?;
+        if !is_writable(number) {
             return Err(decline::NUMBER);
         }
         if matches!(number, Self::CONTROL..=Self::T5) && self.is_active() {
@@ -75,12 +78,16 @@ impl Supervisor {
         Ok(())
     }
 
-    /// Reads a register's stored value. Declines 1, 3. [Declines.3a] [Declines.3b]
+    /// Reads a register. Declines 1, 3. [Declines.3a] [Declines.3b]
     pub fn read_register(&mut self, number: u32) -> Result<u32, u8> {
-        if self.is_spoiled() {
-            return Err(decline::SPOILED);
-        }
-        Ok(match number {
+        self.not_spoiled()?;
+        self.value_of(number).ok_or(decline::NUMBER)
+    }
+
+    /// A register's stored value, and STATE as the record stands; none where there is no such register. [Declines.3b]
+    /// [State.8a]
+    fn value_of(&self, number: u32) -> Option<u32> {
+        Some(match number {
             Self::CSR => self.csr,
             Self::CONTROL => self.control,
             Self::FACTOR_1..=Self::FACTOR_8 => self.factors[(number - Self::FACTOR_1) as usize],
@@ -94,7 +101,8 @@ impl Supervisor {
             Self::SCALER_0 => self.scalers[0],
             Self::SCALER_1 => self.scalers[1],
             Self::ASSIGN => self.assign,
-            _ => return Err(decline::NUMBER),
+            Self::STATE => self.state(),
+            _ => return None,
         })
     }
 
@@ -118,7 +126,8 @@ impl Supervisor {
         }
     }
 
-    /// [CSRWrite.2d] [Main.17] [Blind.3]; the user sync is one of the sequencers that go idle.
+    /// [CSRWrite.2d] [Main.17] [Blind.3]; the user sync is one of the sequencers that go idle. What the latest tick
+    /// brought and did is kept. [State.3]
     fn reset(&mut self) {
         self.csr &= !csr::CLEARED_BY_RESET;
         self.counters = self.factors;

@@ -1,6 +1,6 @@
 //! The tick and its answer.
 
-use super::{control, csr, decline, line, line_out, sync_wanted, word};
+use super::{control, csr, decline, is_ready, line, line_out, sync_wanted, word};
 use super::{Branch, MainState, Supervisor, BRANCHES, MEMORY_WORDS, TRIGGER_BITS};
 
 /// What became of an event, or that a tag was loaded. [Answer.1]
@@ -79,14 +79,7 @@ impl Supervisor {
         let (mut lost, mut rejected, mut accepted) = (0, 0, 0);
         self.blind = self.blind.saturating_sub(1);
         if passed != 0 {
-            let ready = start_csr & csr::GO != 0
-                && start_main == MainState::Idle
-                && !waiting
-                && !wanted
-                && !blind
-                && lines & line::FRONT_BUSY == 0
-                && (lines & line::INHIBIT == 0 || start_csr & csr::OVERRIDE_INHIBIT != 0);
-            if !ready {
+            if !is_ready(start_csr, start_main, waiting, blind, lines) {
                 lost = passed;
             } else if self.latch(memory[passed as usize]) {
                 accepted = passed;
@@ -151,6 +144,11 @@ impl Supervisor {
                 shown[b] = branch.shown();
             }
         }
+
+        // Kept for a read of STATE. [State.3] [State.7]
+        self.kept_lines = lines;
+        self.latched = (accepted | rejected) != 0;
+        self.kept_acknowledges = acknowledges;
 
         Ok(Answer {
             stopped: stopped as u16,

@@ -45,8 +45,9 @@ fn p4_word_without_class_or_without_ok_rejects() {
         let before = unit.record.clone();
         let answer = unit.tick(1, 0, 0);
         assert_eq!((answer.rejected, answer.accepted, answer.lines), (1, 0, 0));
-        // Nothing but scaler 1 (assigned to any pulse passed) and the blind count moves. [Open: T2] [Blind.3]
-        assert_eq!(unit.record, Supervisor { scalers: [0, 1], blind: 2, ..before });
+        // Nothing but scaler 1 (assigned to any pulse passed), the blind count and STATE's bit 12 moves. [Open: T2]
+        // [Blind.3] [State.7]
+        assert_eq!(unit.record, Supervisor { scalers: [0, 1], blind: 2, latched: true, ..before });
 
         // A pulse in each of the next two ticks is lost, the one after them rejected. [Blind.2] [Blind.4] [Blind.5]
         for expected in [(0, 1), (0, 1), (1, 0)] {

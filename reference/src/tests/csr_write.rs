@@ -131,9 +131,12 @@ fn reset_in_full() {
         t4: before.t4,
         t5: before.t5,
         assign: before.assign,
+        kept_lines: before.kept_lines,
+        latched: before.latched,
+        kept_acknowledges: before.kept_acknowledges,
         ..Supervisor::fresh()
     };
-    assert_eq!(unit.record, expected); // [CSRWrite.2d] [Main.17]
+    assert_eq!(unit.record, expected); // [CSRWrite.2d] [Main.17] [State.3]
     assert_eq!(unit.memory, memory); // [CSRWrite.3]
     assert!(!unit.record.is_active());
 }

@@ -172,11 +172,11 @@ fn register_read_1_and_3() {
         assert_eq!(record.read_register(number), Err(1)); // [Declines.3a]
         assert_eq!(record, spoiled());
     }
-    for number in [20, 0x100, u32::MAX] {
+    for number in [21, 22, 0x100, u32::MAX] {
         assert_eq!(Supervisor::fresh().read_register(number), Err(3));
     }
     for way in ways_to_be_active() {
-        for number in 0..=19 {
+        for number in 0..=20 {
             let mut record = way.clone();
             assert!(record.read_register(number).is_ok(), "reads are not declined while active");
             assert_eq!(record, way);

@@ -11,12 +11,15 @@ mod declines;
 mod declines_memory;
 mod front_space_clear;
 mod plain;
+mod plain_state;
 mod pulses;
 mod random;
 mod random_lists;
 mod random_records;
 mod scalers;
 mod spoiled;
+mod state;
+mod state_calls;
 mod syncs;
 
 use crate::machine::*;

@@ -105,6 +105,8 @@ pub fn tick(start: &Supervisor, memory: &[u16], triggers: u32, lines: u32, ackno
         next.csr |= 1 << 16;
     }
 
+    (next.kept_lines, next.latched, next.kept_acknowledges) = (lines, latched, acknowledges); // [State.3]
+
     // Main. [Main.1]–[Main.17]
     let empty = start.branches.iter().all(|branch| branch.used == 0);
     let mut outcome = Outcome::Nothing;

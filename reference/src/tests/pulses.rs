@@ -213,6 +213,7 @@ fn an_accept_touches_nothing_else() {
         accept_pattern: 0x81,
         level_1_ok: true,
         scalers: [0, 1],
+        latched: true,
         ..before
     };
     assert_eq!(unit.record, expected);

@@ -39,6 +39,9 @@ impl List {
         let before = self.record.clone();
         let answer = self.record.read_register(number);
         assert_eq!(self.record, before, "a read changes nothing"); // [Declines.3b]
+        if number == Supervisor::STATE {
+            assert_eq!(answer, Ok(plain_state::state(&before))); // [State.8a]
+        }
         self.after('R', answer.err(), before, 0);
     }
 
@@ -192,6 +195,7 @@ fn the_account_holds_after_each_of_many_calls() {
             0 => {
                 let number = random.below(24);
                 list.read(number);
+                list.read(Supervisor::STATE);
             }
             1 => list.memory_call(&mut random),
             2..=3 => {

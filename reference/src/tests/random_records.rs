@@ -46,6 +46,10 @@ fn random_record(random: &mut Random) -> Supervisor {
     r.sync_count = if random.flip() { random.below(4) } else { 65_534 - random.below(3) };
     r.user_sync_waiting = r.main == MainState::Idle && random.flip();
     r.blind = if random.flip() { 0 } else { random.below(3) };
+    r.kept_lines = random.next() & random.pick(&[u32::MAX, 0x9F, 0x1F]);
+    r.latched = random.flip();
+    let any = random.next();
+    r.kept_acknowledges = random.pick(&[0, u32::MAX, r.roc_enable, !r.roc_enable, any]);
     let full = r.user_sync_waiting || matches!(r.main, MainState::Space | MainState::SyncHold);
     let all_empty = random.once_in(3);
     for branch in &mut r.branches {
@@ -61,15 +65,17 @@ fn random_record(random: &mut Random) -> Supervisor {
 
 #[test]
 fn any_record_that_is_not_spoiled_stays_so() {
-    // [Open: A5], reachable or not; and the quick tick agrees with the slow one.
+    // [Open: A5], reachable or not; and the quick tick and STATE agree with the slow ones.
     let mut random = Random(0x0123_4567_89AB_CDEF);
     let mut memory = vec![0u16; MEMORY_WORDS];
     for _ in 0..60_000 {
         let mut record = random_record(&mut random);
         assert!(!record.is_spoiled() && !plain::is_spoiled(&record));
         let before = record.clone();
+        assert_eq!(record.read_register(Supervisor::STATE), Ok(plain_state::state(&before)), "{before:?}");
+        assert_eq!(record, before); // [Declines.3b]
         if random.once_in(4) {
-            let number = random.below(20);
+            let number = random.below(21);
             let value = if random.flip() { random.next() & 0x8FFF_4FFF } else { random.register_value(number) };
             let _ = record.write_register(number, value);
             let _ = record.read_memory(&memory, 0);
@@ -93,7 +99,7 @@ fn the_quick_spoiled_test_is_the_slow_one() {
         let wild = random.next() >> random.below(32);
         let input = random.below(8) as usize;
         let b = random.below(4) as usize;
-        match random.below(22) {
+        match random.below(23) {
             0 => r.csr = wild,
             1 => r.control = wild,
             2 => r.factors[input] = wild,
@@ -115,6 +121,7 @@ fn the_quick_spoiled_test_is_the_slow_one() {
             18 => r.branches[b].state = BranchState::Strobe,
             19 => r.user_sync_waiting = true,
             20 => r.blind = wild,
+            21 => r.kept_lines = wild,
             _ => r.main = random.pick(&[MainState::Idle, MainState::Wait2, MainState::Front, MainState::Space]),
         }
         assert_eq!(r.is_spoiled(), plain::is_spoiled(&r), "{r:?}");

@@ -280,4 +280,7 @@ fn what_no_clause_names_does_not_spoil() {
         r.accept_pattern = 255;
         r.sync_count = 65_534;
     });
+    // Nor does what is kept of the latest tick, odd lines included. [State.3]
+    leaves(|r| (r.kept_lines, r.latched, r.kept_acknowledges) = (u32::MAX, true, u32::MAX));
+    leaves(|r| r.kept_lines = 0x80);
 }

@@ -96,7 +96,9 @@ fn model_ticks(n: u64, memory: &[u16], table: &[u64]) -> u64 {
         };
     }
     sum = fold(sum, u64::from(record.scalers[0]) | u64::from(record.scalers[1]) << 32);
-    fold(sum, u64::from(record.csr) | u64::from(record.sync_count) << 32)
+    sum = fold(sum, u64::from(record.csr) | u64::from(record.sync_count) << 32);
+    let latest = u64::from(record.kept_lines) | u64::from(record.latched) << 8;
+    fold(sum, latest | u64::from(record.kept_acknowledges) << 32)
 }
 
 // ---- measuring
@@ -134,13 +136,15 @@ mod layout {
     #[repr(C)]
     pub struct Branch(u64, u32, u8);
     #[repr(C)]
-    pub struct Readout([Branch; 4], u32);
+    pub struct Readout([Branch; 4], [u32; 2]);
     #[repr(C)]
     pub struct Main(u32, [u8; 7]);
     #[repr(C)]
     pub struct Timers([u16; 4], u8);
     #[repr(C)]
-    pub struct Core([[u32; 8]; 2], u32, u32, [u32; 3], Main, Timers, [u16; 2], [u8; 2]);
+    pub struct Latest(u32, bool);
+    #[repr(C)]
+    pub struct Core([[u32; 8]; 2], u32, u32, [u32; 3], Main, Timers, [u16; 2], u8, Latest, bool);
     #[repr(C)]
     pub struct Supervisor(Readout, Core);
 }

@@ -1,12 +1,13 @@
-//! What the compared calls met: every state, decline, outcome, assignment and clause of the spoiled rule, and the
-//! blind time.
+//! What the compared calls met: every state, decline, outcome, assignment and clause of the spoiled rule, the blind
+//! time and STATE.
 
 use crate::blind_counts::{self, BlindCounts};
 use crate::clauses::{broken_clauses, CLAUSES};
 use crate::numbers::*;
+use crate::state_counts::StateCounts;
 use reference::machine::csr;
 
-const STATES: [&str; 8] = ["Idle", "Delay", "Wait 2", "Wait 3", "Front", "Space", "Sync hold", "Clear"];
+pub const STATES: [&str; 8] = ["Idle", "Delay", "Wait 2", "Wait 3", "Front", "Space", "Sync hold", "Clear"];
 const PHASES: [&str; 3] = ["Rest", "Strobe", "Drop"];
 const OUTCOMES: [&str; 7] = ["none", "cleared", "event", "event, sync", "event, late", "event, sync and late", "tag"];
 const MASKS: [&str; 5] = ["stopped", "scaled", "lost", "rejected", "accepted"];
@@ -48,6 +49,7 @@ pub struct Counts {
     events: [u64; 15],
     resets: [[u64; 9]; 2],
     blind: BlindCounts,
+    state: StateCounts,
     clauses: [[u64; 2]; CLAUSES.len()],
 }
 
@@ -69,6 +71,7 @@ impl Counts {
             events: [0; 15],
             resets: [[0; 9]; 2],
             blind: BlindCounts::new(),
+            state: StateCounts::new(),
             clauses: [[0; 2]; CLAUSES.len()],
         }
     }
@@ -78,6 +81,7 @@ impl Counts {
         self.calls += 1;
         self.replies[call[0] as usize][reply[0] as usize] += 1;
         self.blind.add(before, call, reply, after);
+        self.state.add(before, call, reply, after);
         if reply[0] == 1 {
             let broken = broken_clauses(before);
             let together = usize::from(broken.iter().filter(|&&is| is).count() > 1);
@@ -247,6 +251,10 @@ impl Counts {
         for (name, count) in blind_counts::EVENTS.iter().zip(self.blind.events) {
             row((*name).into(), count);
         }
+        println!("Reads of STATE");
+        for (name, count) in self.state.rows() {
+            row(name, count);
+        }
         println!("Clauses of the spoiled rule");
         for (name, count) in CLAUSES.iter().zip(self.clauses) {
             row(format!("{name}, alone"), count[0]);
@@ -256,7 +264,7 @@ impl Counts {
     }
 }
 
-fn is_active(n: &Record) -> bool {
+pub fn is_active(n: &Record) -> bool {
     let wanted = n[0] & 0xC != 0 && n[0] & 0x10 != 0;
     let busy = (0..4).any(|b| n[BRANCH + 3 * b + 1] != 0 || n[BRANCH + 3 * b + 2] != 0);
     n[0] & 1 != 0 || n[STATE] != 0 || n[WAITING] == 1 || wanted || busy

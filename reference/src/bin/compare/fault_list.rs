@@ -16,8 +16,10 @@ const fn fault(says: &'static str, right: &'static str, wrong: &'static str) -> 
 include!("call_faults.rs");
 include!("tick_faults.rs");
 include!("request_faults.rs");
+include!("state_faults.rs");
+include!("kept_faults.rs");
 
 /// All of them, in order.
 fn faults() -> impl Iterator<Item = &'static Fault> {
-    CALL_FAULTS.iter().chain(TICK_FAULTS).chain(REQUEST_FAULTS)
+    CALL_FAULTS.iter().chain(TICK_FAULTS).chain(REQUEST_FAULTS).chain(STATE_FAULTS).chain(KEPT_FAULTS)
 }

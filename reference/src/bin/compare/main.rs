@@ -2,6 +2,7 @@
 //! the memory. See docs/PERFORMANCE.md for what is covered.
 
 mod blind_counts;
+mod changes;
 mod clauses;
 mod counts;
 mod faults;
@@ -16,6 +17,9 @@ mod pair;
 mod profile;
 mod random;
 mod scripts;
+mod setup;
+mod state_counts;
+mod ticks;
 mod values;
 
 use counts::Counts;

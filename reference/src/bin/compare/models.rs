@@ -57,6 +57,9 @@ macro_rules! model {
                     sync_count: word(SYNC_COUNT),
                     user_sync_waiting: n[WAITING] == 1,
                     blind: word(BLIND),
+                    kept_lines: n[KEPT_LINES] as u32,
+                    latched: n[LATCHED] & 1 == 1,
+                    kept_acknowledges: word(KEPT_ACKNOWLEDGES),
                     branches: std::array::from_fn(branch),
                 }
             }
@@ -94,6 +97,9 @@ macro_rules! model {
                 n[SYNC_COUNT] = s.sync_count.into();
                 n[WAITING] = s.user_sync_waiting.into();
                 n[BLIND] = s.blind.into();
+                n[KEPT_LINES] = s.kept_lines.into();
+                n[LATCHED] = s.latched.into();
+                n[KEPT_ACKNOWLEDGES] = s.kept_acknowledges.into();
                 for (b, branch) in s.branches.iter().enumerate() {
                     n[BRANCH + 3 * b] = u64::from_le_bytes(branch.words);
                     n[BRANCH + 3 * b + 1] = branch.used.into();

@@ -1,7 +1,8 @@
 //! The machines as the comparison sees them: records, calls and replies are numbers, laid out as in crates/numbers and crates/harness.
 
-/// Registers 0–19, counters, main, sync count, user sync, three numbers for each branch, then the blind count.
-pub const RECORD: usize = 51;
+/// Registers 0–19, counters, main, sync count, user sync, three numbers for each branch, the blind count, then what is
+/// kept of the latest tick.
+pub const RECORD: usize = 54;
 pub const COUNTERS: usize = 20;
 pub const STATE: usize = 28;
 pub const AGE: usize = 29;
@@ -17,6 +18,12 @@ pub const WAITING: usize = 37;
 pub const BRANCH: usize = 38;
 /// A byte in the proved record, so never above 255.
 pub const BLIND: usize = 50;
+/// A word of 32 bits in the proved record.
+pub const KEPT_LINES: usize = 51;
+/// 0 or 1.
+pub const LATCHED: usize = 52;
+/// A word of 32 bits too.
+pub const KEPT_ACKNOWLEDGES: usize = 53;
 
 pub const FIELDS: [&str; RECORD] = [
     "CSR",
@@ -70,6 +77,9 @@ pub const FIELDS: [&str; RECORD] = [
     "used 4",
     "branch 4",
     "blind count",
+    "kept lines",
+    "latched",
+    "kept acknowledges",
 ];
 
 pub type Record = [u64; RECORD];

@@ -1,4 +1,4 @@
-// The wrong models, third part: what document 02 brings.
+// The wrong models, third part: the blind time after a rejected pattern.
 
 #[rustfmt::skip]
 const REQUEST_FAULTS: &[Fault] = &[
@@ -19,8 +19,8 @@ const REQUEST_FAULTS: &[Fault] = &[
     ),
     fault(
         "ready sees the blind count after its fall",
-        "!blind",
-        "self.blind == 0",
+        "is_ready(start_csr, start_main, waiting, blind, lines)",
+        "is_ready(start_csr, start_main, waiting, self.blind > 0, lines)",
     ),
     fault(
         "blind for ever",

@@ -24,12 +24,12 @@ const TICK_FAULTS: &[Fault] = &[
     ),
     fault(
         "ready while a user sync is wanted",
-        "!wanted",
+        "!sync_wanted(csr)",
         "true",
     ),
     fault(
         "the override of inhibit is ignored",
-        "(lines & line::INHIBIT == 0 || start_csr & csr::OVERRIDE_INHIBIT != 0)",
+        "(lines & line::INHIBIT == 0 || csr & csr::OVERRIDE_INHIBIT != 0)",
         "(lines & line::INHIBIT == 0)",
     ),
     fault(
@@ -184,13 +184,13 @@ const TICK_FAULTS: &[Fault] = &[
     ),
     fault(
         "full is more than 8 words",
-        "branch.used < if locked(b) { Self::LOCKED_DEPTH } else { Self::DEPTH }",
-        "branch.used <= if locked(b) { Self::LOCKED_DEPTH } else { Self::DEPTH }",
+        "self.branches[branch].used < if locked { Self::LOCKED_DEPTH } else { Self::DEPTH }",
+        "self.branches[branch].used <= if locked { Self::LOCKED_DEPTH } else { Self::DEPTH }",
     ),
     fault(
         "CSR bit 10 locks branch 1",
-        "(branch == BRANCHES - 1 && start_csr & csr::ROC_LOCK_BRANCH_4 != 0)",
-        "(branch == 0 && start_csr & csr::ROC_LOCK_BRANCH_4 != 0)",
+        "(branch == BRANCHES - 1 && csr & csr::ROC_LOCK_BRANCH_4 != 0)",
+        "(branch == 0 && csr & csr::ROC_LOCK_BRANCH_4 != 0)",
     ),
     fault(
         "the end of Sync hold leaves bit 1",

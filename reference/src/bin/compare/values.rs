@@ -6,9 +6,9 @@ use reference::machine::{csr, MEMORY_WORDS};
 /// A register's number, mostly one that exists.
 pub fn number(random: &mut Random) -> u32 {
     if random.once_in(25) {
-        random.pick(&[20, 21, 31, 32, 255, 256, u32::MAX])
+        random.pick(&[21, 22, 31, 32, 255, 256, u32::MAX])
     } else {
-        random.below(20)
+        random.below(21)
     }
 }
 
