@@ -160,6 +160,10 @@ resetKeeps = after fullTick ++ write csr reset ∷ [] shows 2 ∷ 12 ∷ 13 ∷ 
 abbrev pub initializeDoesNot : Example
 initializeDoesNot = after fullTick ++ write csr initialize ∷ [] shows 13 ∷ 18 ∷ noneEnabled
 
+-- the next tick that runs replaces it all
+abbrev pub nextTickReplaces : Example
+nextTickReplaces = after write rocEnable 1 ∷ bring 0 pass2 1 ∷ ticks 1 shows 13 ∷ 18 ∷ 24 ∷ 27 ∷ 30 ∷ []
+
 -- a declined tick is not the latest: trigger bit 12 names no input
 abbrev pub declinedIsNotKept : Example
 declinedIsNotKept =
@@ -179,5 +183,5 @@ stateExamples =
     ∷ wantedIsNotShown ∷ tagShows ∷ lockedBranchIsFull ∷ strobesShow ∷ emptyAtDrop ∷ syncEnds
     ∷ syncHoldShows ∷ oneIsFull
     ∷ eachBranchItsOwn ∷ enabledAtTheRead ∷ notEnabledIsNotAsked
-    ∷ resetKeeps ∷ initializeDoesNot ∷ declinedIsNotKept
+    ∷ resetKeeps ∷ initializeDoesNot ∷ nextTickReplaces ∷ declinedIsNotKept
     ∷ []
