@@ -38,6 +38,8 @@ def why_active(standing):
 def decline_words(line):
     """The reason of a decline of this line."""
     why = names.DECLINES[line.declined]
+    if line.declined == 3 and line.kind == "W" and line.fields[0] == names.STATE:
+        return "STATE is read only"
     if line.declined == 4:
         status = names.ACTIVE_SETS[line.kind]
         rule = " (registers 01–10 are not written then)" if line.kind == "W" else ""

@@ -1,13 +1,14 @@
-"""The names of document 01 that the tools print: registers and their bits, lines, masks, main's states, declines."""
+"""The names of documents 01 and 02 that the tools print: registers and their bits, lines, masks, main's states, declines."""
 import re
 
-# [Registers.1]
+# [Registers.1] [State.1]
 REGISTERS = (
     ["CSR", "trigger control"]
     + [f"factor of input {i}" for i in range(1, 9)]
-    + ["ROC enable", "sync interval", "T1", "T2", "T3", "T4", "T5", "scaler 0", "scaler 1", "scaler 1 assign"]
+    + ["ROC enable", "sync interval", "T1", "T2", "T3", "T4", "T5", "scaler 0", "scaler 1", "scaler 1 assign", "STATE"]
 )
 CSR, CONTROL, FACTORS, ROC, INTERVAL, T1, T5, SCALERS, ASSIGN = 0, 1, range(2, 10), 10, 11, 12, 16, (17, 18), 19
+STATE = 20
 
 # [CSR.1] [CSR.2]; the bits 0–11 are set and cleared by a write, the others are read only
 CSR_BITS = {
@@ -18,13 +19,13 @@ CSR_BITS = {
 }
 CONTROLS = 0xFFF
 GO, PAUSE_NEXT, PAUSE_AND_SYNC, FORCE_SYNC, ENABLE_SYNC, HARDWARE = (1 << bit for bit in range(6))
-USE_T5, OVERRIDE = 1 << 8, 1 << 11
+USE_T5, ROC_LOCK, ROC_LOCK_4, OVERRIDE = (1 << bit for bit in range(8, 12))
 # [CSRWrite.1] [CSRWrite.2c] [CSRWrite.2d] only in a written value
 RESET, INITIALIZE, CLEAR_STATUS, CLEAR_SHIFT = 1 << 14, 1 << 15, 1 << 31, 16
 # [Control.1]
 STROBE_MODE, OPEN_PRESCALES = 1 << 0, 1 << 15
 
-# the bits that a write takes [Widths.1] [Widths.2] [Declines.2d]
+# the bits that a write takes; STATE is not written [Widths.1] [Widths.2] [Declines.2d] [State.8b]
 TAKEN = (
     [0x8FFFCFFF, 0x9FFF] + [0xFFFFF] * 4 + [0x3FFF] * 4
     + [0xFFFFFFFF, 0xFFFF, 0xFFFF, 0xFFFF, 0xFFFF, 0xFFFF, 0xFF, 0xFFFFFFFF, 0xFFFFFFFF, 0x7F]
@@ -42,6 +43,12 @@ MASKS = ["stopped", "scaled", "lost", "rejected", "accepted"]
 SYNC, LATE = 1 << 4, 1 << 5
 OUTCOMES = {"-": "none", "c": "cleared", "e": "event", "g": "tag"}
 BRANCHES = range(1, 5)
+# [State.2] by bit: section 3.11 of source document 001
+STATE_BITS = [
+    "level 1 OK", "level 2 start", "level 2 pass", "level 2 fail", "level 2 accept", "level 3 start", "level 3 pass",
+    "level 3 fail", "level 3 accept", "clear", "front busy", "inhibit", "pattern latched", "TS busy", "main in a cycle",
+    "ready", "active", "synchronization", "buffers empty", "buffer full",
+] + [f"branch {b} {signal}" for b in BRANCHES for signal in ("strobe", "AND of acknowledges", "OR of acknowledges")]
 STATES = ["Idle", "Delay", "Wait 2", "Wait 3", "Front", "Space", "Sync hold", "Clear"]
 TICK_NS = 20
 # [Blind.2] ticks that are not ready after a rejected pattern
@@ -64,7 +71,7 @@ OTHER_FORM = 6
 DECLINES = {
     1: "the record is spoiled",
     2: "the memory does not have 4,096 words",
-    3: "no such register: 13 is the last",
+    3: "no such register: 14 is the last",
     4: "the record is active",
     5: "the value is out of range",
     6: "a line of other form",

@@ -91,7 +91,7 @@ def value_words(register, value):
 
 
 def write_words(register, value):
-    if register >= len(names.REGISTERS):
+    if register >= len(names.TAKEN):
         return f"write of register {register:02X}"
     name = names.REGISTERS[register]
     if value & ~names.TAKEN[register] or register == names.ASSIGN and names.assigned(value) is None:
@@ -107,6 +107,8 @@ def read_words(register, answer):
     name = names.REGISTERS[register]
     if register == names.CSR:
         return f"{name} is {listed(csr_names(int(answer, 16)), 'all clear')}"
+    if register == names.STATE:
+        return f"{name} is {listed(names.STATE_BITS[bit] for bit in bits(int(answer, 16)))}"
     return f"{name} is {value_words(register, int(answer, 16))}"
 
 

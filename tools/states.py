@@ -1,5 +1,6 @@
-"""Follows main's state, c, the user sync's wait, the blind count, the queues, CSR bits 0–11 and T5 from a script's calls and
-answers alone. Each is what the call leaves. What does not fit documents 01 and 02 is a Misfit, never a guess."""
+"""Follows main's state, c, the user sync's wait, the blind count, the branches, CSR bits 0–11, T5, ROC enable and the latest
+tick from a script's calls and answers alone. Each is what the call leaves. What does not fit documents 01 and 02 is a
+Misfit, never a guess."""
 import typing
 
 import names
@@ -110,13 +111,16 @@ class Follower:
         self.fresh()
 
     def fresh(self):
-        self.csr, self.t5 = 0, 0
+        self.csr, self.t5, self.roc = 0, 0, 0
+        # of the latest tick: its lines, its acknowledges, whether it latched a pattern [State.3]
+        self.lines, self.acknowledges, self.latched = 0, 0, False
         self.idle()
 
     def idle(self):
         """All sequencers at Idle, no word held and not blind, as RESET leaves them. [CSRWrite.2d] [Blind.3]"""
         self.state, self.out, self.late, self.clear, self.waits, self.blind = "Idle", 0, False, 0, False, 0
         self.queues = [[], [], [], []]
+        self.strobes, self.drops = [False] * 4, [False] * 4
 
     # ---- calls other than ticks
 
@@ -124,6 +128,8 @@ class Follower:
         """A register write that was carried out. [CSRWrite.1] [CSRWrite.2a] [CSRWrite.2d]"""
         if register == names.T5:
             self.t5 = value
+        if register == names.ROC:
+            self.roc = value
         if register != names.CSR:
             return
         if value & names.INITIALIZE:
@@ -135,6 +141,31 @@ class Follower:
 
     def read(self, register, value):
         fit(register != names.CSR or value & 0xFFFF == self.csr, f"CSR bits 0–15 should be {self.csr:04X}")
+        if register == names.STATE:
+            word = sum(bit << place for place, bit in enumerate(self.state_bits()))
+            fit(value == word, f"STATE should be {word:08X}")
+
+    def state_bits(self):
+        """STATE, bit by bit. [State.2]–[State.7]"""
+        out, line = (lambda bit: bool(self.out & bit)), (lambda bit: bool(self.lines & bit))
+        ready = not unready(self.standing(), self.lines)
+        cycle, held = self.state != "Idle", any(self.queues)
+        active = self.csr & names.GO or cycle or self.waits or is_wanted(self.csr) or held or any(self.drops)
+        locks = [self.csr & (names.ROC_LOCK | (names.ROC_LOCK_4 if b == 3 else 0)) for b in range(4)]
+        full = any(len(queue) >= (1 if lock else 8) for queue, lock in zip(self.queues, locks))
+        bits = [
+            *(out(OK), out(START2), line(PASS2), line(FAIL2), out(ACCEPT2), out(START3), line(PASS3), line(FAIL3)),
+            *(out(ACCEPT3), self.clear > 0, line(names.BUSY), line(names.INHIBIT), self.latched, not ready, cycle, ready),
+            *(bool(active), self.state == "Sync hold" or self.waits, not held, full),
+        ]
+        for b in range(4):
+            enabled, high = self.roc >> 8 * b & 0xFF, self.high(b)
+            bits += [self.strobes[b], high == enabled, high != 0]
+        return bits
+
+    def high(self, b):
+        """The latest tick's acknowledges of the controllers enabled now on the branch at place b."""
+        return (self.acknowledges & self.roc) >> 8 * b & 0xFF
 
     def standing(self):
         return Standing(self.state, self.waits, self.blind, self.csr, tuple(len(queue) for queue in self.queues))
@@ -143,6 +174,8 @@ class Follower:
 
     def ticked(self, tick):
         empty = not any(self.queues)
+        self.lines, self.acknowledges = tick.lines, tick.acknowledges
+        self.latched = bool(tick.masks["accepted"] | tick.masks["rejected"])
         self.check_pulses(tick)
         self.check_user_sync(tick)
         state = state_after(self.state, tick)
@@ -214,6 +247,8 @@ class Follower:
             if tick.outcome.number is not None:
                 queue.append(tick.outcome.number)
             fit(len(queue) <= 8, f"branch {b + 1} holds more than 8 words")
+            self.strobes[b] = shown is not None
+            self.drops[b] = finished is not None or self.drops[b] and self.high(b) != 0  # [Branches.2] [Branches.3]
 
     def end_sync_hold(self, empty, state):
         """It ends where all are empty at the tick's start; bit 1 goes with GO. [Main.14]"""

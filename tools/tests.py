@@ -58,6 +58,9 @@ class Calls(unittest.TestCase):
         self.says("T2 is 5 (5 × 40 ns = 10 ticks, 200 ns)", "W 0D 00000005", "R 0D")
         self.says("scaler 1 assign is 0C (counts: input 12 passed)", "W 13 0000000C", "R 13")
         self.says("scaler 0 is 1", *FIRST, "R 11")
+        ands = [f"branch {b} AND of acknowledges" for b in (1, 2, 3, 4)]
+        self.says("STATE is " + ", ".join(["TS busy", "buffers empty", *ands]), "R 14")
+        self.says("STATE is " + ", ".join(["ready", "active", "buffers empty", *ands]), "W 00 00000001", "R 14")
 
     def test_memory(self):
         self.says("memory at 001 (input 1) := OK, class 1, code 5, accept pattern 01", "M 001 0153")
@@ -118,8 +121,9 @@ class Declines(unittest.TestCase):
 
     def test_declines(self):
         active = "because the record is active: GO is set"
-        self.because(3, "because no such register: 13 is the last", "W 14 00000000")
-        self.because(3, "because no such register: 13 is the last", "R FF")
+        self.because(3, "because STATE is read only", "W 14 00000000")
+        self.because(3, "because no such register: 14 is the last", "W 15 00000000")
+        self.because(3, "because no such register: 14 is the last", "R FF")
         self.because(4, active + " (registers 01–10 are not written then); status 19 (write error) is set",
                      "W 00 00000001", "W 0C 00000003")
         self.because(4, active + "; status 19 (write error) is set", "W 00 00000001", "M 001 0153")
@@ -193,6 +197,7 @@ class States(unittest.TestCase):
         "rejected": "Idle*3 Delay Front Space Idle*2",
         "prescaled": "Idle*2 Delay Front Space Idle*5 Delay Front Space Idle*3",
         "scheduled_sync": "Delay Front Space Idle*3 Delay Front Synchold*3 Idle Delay Front Space Idle*3",
+        "state": "Delay Front Synchold*5 Idle*2 Delay",
         "user_sync": "Delay Front Space Idle*9 Delay",
     }
 
@@ -242,6 +247,14 @@ class States(unittest.TestCase):
         answers = session.printed(script)
         self.misfits(script, answers, 6, "001 000 000 0000", "000 001 000 0000")
         self.misfits(script, answers, 8, "000 000 001 0101", "001 000 000 0000")
+
+    def test_wrong_state(self):
+        """Each bit of STATE, wrong in any one read of the example, does not fit."""
+        script = (TOP / "examples" / "state.txt").read_bytes()
+        answers = session.printed(script)
+        for line in (line for line in session.run(script).lines if line.text == "R\t14"):
+            for bit in range(32):
+                self.misfits(script, answers, line.number, line.answer, f"{int(line.answer, 16) ^ 1 << bit:08X}")
 
     def test_sync_hold_too_short(self):
         """Sync hold left in tick 11 (line 16), at whose start the branches still hold the word."""

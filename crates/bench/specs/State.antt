@@ -2,7 +2,7 @@
 --     document 02     N2
 --     stateExamples   the table, of rows as in Bench
 -- Pulses are of input 1. Where no controller is enabled, the AND of every branch is high ([State.7]).
--- Own rules of 02 used here: none. Decisions: R4. Left out: nothing.
+-- Own rules of 02 used here: none. Decisions: R6. Left out: nothing.
 -- Assumes nothing.
 use Prim.Native.Nat.{ℕ, _+_}
 use mathlib.Core.List.{List, [], _∷_, _++_}

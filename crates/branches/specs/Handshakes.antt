@@ -4,7 +4,7 @@
 --     strobesOf, andsOf, orsOf       of a module's four
 -- Place k is branch k + 1. The acknowledges are those of the latest tick, the enabled controllers those of ROC enable as it
 -- stands.
--- Own rules of 02 used here: none. Decisions: R4. Left out: nothing.
+-- Own rules of 02 used here: none. Decisions: R6. Left out: nothing.
 -- Assumes nothing.
 use Prim.Native.Nat.{ℕ}
 use mathlib.Core.Bool.{Bool, not}

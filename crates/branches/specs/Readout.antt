@@ -10,7 +10,7 @@
 --     isWellFormedOf  no branch spoils the record
 --     linesAt, stepOf how a module's own two words give the lines of each branch, and its tick
 -- Place k is branch k + 1.
--- Own rules of 01 and 02 used here: none. Decisions: B4, B6, T4, A4, R4. Left out: nothing.
+-- Own rules of 01 and 02 used here: none. Decisions: B4, B6, T4, A4, R6. Left out: nothing.
 -- Assumes nothing.
 use Prim.Native.Nat.{ℕ, _%_}
 use mathlib.Core.Bool.{Bool, not, _&&_, _||_}

@@ -3,7 +3,7 @@
 --     keptAfter      what is kept after a call, from its ask and its reply
 --     keptOf         .. after a whole log, from the latest tick that ran since the start or INITIALIZE
 --     KeepsTheLatestTick   that it is what the record keeps, after every list of calls from a fresh supervisor
--- Own rules of 02 used here: none. Decisions: R4. Left out: nothing.
+-- Own rules of 02 used here: none. Decisions: R6. Left out: nothing.
 -- Assumes nothing.
 use Prim.Native.Nat.{ℕ}
 use mathlib.Core.Path.{_≡_}

@@ -5,7 +5,7 @@
 --     Kept, keptIn    what a record keeps of the latest tick; ShowsTick: that STATE shows what a tick brought and latched
 -- The lines and the latched trigger are those of the latest tick that ran, as are the acknowledges; all else, the enabled
 -- controllers too, is the record as it stands at the read.
--- Own rules of 02 used here: none. Decisions: R4. Left out: nothing.
+-- Own rules of 02 used here: none. Decisions: R6. Left out: nothing.
 -- Assumes nothing.
 use Prim.Native.Nat.{ℕ, _+_, _*_}
 use mathlib.Core.Path.{_≡_}

@@ -3,7 +3,7 @@
 --     document 02    N2
 --     freshOf        before any tick
 --     keptOf         what a tick that runs leaves
--- Own rules of 02 used here: none. Decisions: R4. Left out: the acknowledges, in branches; the bits, in access.
+-- Own rules of 02 used here: none. Decisions: R6. Left out: the acknowledges, in branches; the bits, in access.
 -- Assumes nothing.
 use mathlib.Core.Bool.{false, _||_}
 use Rattle.scalers.specs.Scalers.{isSome}
