@@ -57,8 +57,8 @@ freshOf =
       timers = timers.freshOf;
       sync = counter.freshOf;
       blind = blind.freshOf;
-      latest = latest.freshOf;
       user = user.freshOf;
+      latest = latest.freshOf;
     }
 
 -- [CSRWrite.2d] the sequencers idle, scalers and sync count 0, every prescale counter loaded; the CSR's own bits are
@@ -146,8 +146,8 @@ settledOf l p latch m u c =
         timers = c .timers;
         sync = syncAfterOf (csr.enablesSync (c .csr)) m u (c .sync);
         blind = blind.afterOf (latch .rejected) (c .blind);
-        latest = latest.keptOf l latch;
         user = u .next;
+        latest = latest.keptOf l latch;
       };
       masks = masksOf p latch;
       outcome = outcomeOf m u;

@@ -13,28 +13,28 @@ use Rattle.trigger.specs.declared.blind.BlindTime.{BlindTime}
 use Rattle.core.specs.declared.Core.{Core}
 
 abbrev pub withPrescalers : Prescalers → Core → Core
-withPrescalers v c = record { prescalers = v; csr = c .csr; control = c .control; scalers = c .scalers; main = c .main; timers = c .timers; sync = c .sync; blind = c .blind; latest = c .latest; user = c .user }
+withPrescalers v c = record { prescalers = v; csr = c .csr; control = c .control; scalers = c .scalers; main = c .main; timers = c .timers; sync = c .sync; blind = c .blind; user = c .user; latest = c .latest }
 
 abbrev pub withCsr : Csr → Core → Core
-withCsr v c = record { prescalers = c .prescalers; csr = v; control = c .control; scalers = c .scalers; main = c .main; timers = c .timers; sync = c .sync; blind = c .blind; latest = c .latest; user = c .user }
+withCsr v c = record { prescalers = c .prescalers; csr = v; control = c .control; scalers = c .scalers; main = c .main; timers = c .timers; sync = c .sync; blind = c .blind; user = c .user; latest = c .latest }
 
 abbrev pub withControl : Control → Core → Core
-withControl v c = record { prescalers = c .prescalers; csr = c .csr; control = v; scalers = c .scalers; main = c .main; timers = c .timers; sync = c .sync; blind = c .blind; latest = c .latest; user = c .user }
+withControl v c = record { prescalers = c .prescalers; csr = c .csr; control = v; scalers = c .scalers; main = c .main; timers = c .timers; sync = c .sync; blind = c .blind; user = c .user; latest = c .latest }
 
 abbrev pub withScalers : Scalers → Core → Core
-withScalers v c = record { prescalers = c .prescalers; csr = c .csr; control = c .control; scalers = v; main = c .main; timers = c .timers; sync = c .sync; blind = c .blind; latest = c .latest; user = c .user }
+withScalers v c = record { prescalers = c .prescalers; csr = c .csr; control = c .control; scalers = v; main = c .main; timers = c .timers; sync = c .sync; blind = c .blind; user = c .user; latest = c .latest }
 
 abbrev pub withTimers : Timers → Core → Core
-withTimers v c = record { prescalers = c .prescalers; csr = c .csr; control = c .control; scalers = c .scalers; main = c .main; timers = v; sync = c .sync; blind = c .blind; latest = c .latest; user = c .user }
+withTimers v c = record { prescalers = c .prescalers; csr = c .csr; control = c .control; scalers = c .scalers; main = c .main; timers = v; sync = c .sync; blind = c .blind; user = c .user; latest = c .latest }
 
 abbrev pub withSync : SyncCounter → Core → Core
-withSync v c = record { prescalers = c .prescalers; csr = c .csr; control = c .control; scalers = c .scalers; main = c .main; timers = c .timers; sync = v; blind = c .blind; latest = c .latest; user = c .user }
+withSync v c = record { prescalers = c .prescalers; csr = c .csr; control = c .control; scalers = c .scalers; main = c .main; timers = c .timers; sync = v; blind = c .blind; user = c .user; latest = c .latest }
 
 abbrev pub withBlind : BlindTime → Core → Core
-withBlind v c = record { prescalers = c .prescalers; csr = c .csr; control = c .control; scalers = c .scalers; main = c .main; timers = c .timers; sync = c .sync; blind = v; latest = c .latest; user = c .user }
+withBlind v c = record { prescalers = c .prescalers; csr = c .csr; control = c .control; scalers = c .scalers; main = c .main; timers = c .timers; sync = c .sync; blind = v; user = c .user; latest = c .latest }
 
 abbrev pub withMain : MainSequencer → Core → Core
-withMain v c = record { prescalers = c .prescalers; csr = c .csr; control = c .control; scalers = c .scalers; main = v; timers = c .timers; sync = c .sync; blind = c .blind; latest = c .latest; user = c .user }
+withMain v c = record { prescalers = c .prescalers; csr = c .csr; control = c .control; scalers = c .scalers; main = v; timers = c .timers; sync = c .sync; blind = c .blind; user = c .user; latest = c .latest }
 
 abbrev pub withUser : UserSync → Core → Core
-withUser v c = record { prescalers = c .prescalers; csr = c .csr; control = c .control; scalers = c .scalers; main = c .main; timers = c .timers; sync = c .sync; blind = c .blind; latest = c .latest; user = v }
+withUser v c = record { prescalers = c .prescalers; csr = c .csr; control = c .control; scalers = c .scalers; main = c .main; timers = c .timers; sync = c .sync; blind = c .blind; user = v; latest = c .latest }

@@ -47,8 +47,8 @@ pub struct Core {
     // register 11 and the sync count
     pub sync: SyncCounter,
     pub blind: BlindTime,
-    pub latest: Latest,
     pub user: UserSync,
+    pub latest: Latest,
 }
 
 pub struct CoreStep {
@@ -71,8 +71,8 @@ impl Core {
             timers: Timers::fresh(),
             sync: SyncCounter::fresh(),
             blind: BlindTime::fresh(),
-            latest: Latest::fresh(),
             user: UserSync::fresh(),
+            latest: Latest::fresh(),
         }
     }
 
@@ -93,8 +93,8 @@ impl Core {
             timers,
             sync: self.sync.zeroed(),
             blind: BlindTime::fresh(),
-            latest,
             user: UserSync::fresh(),
+            latest,
         }
     }
 
@@ -176,8 +176,8 @@ impl Core {
             timers,
             sync: sync_after(self.sync, csr.enables_sync(), m, u),
             blind: self.blind.after(latch.rejected),
-            latest: Latest::kept(lines, latch),
             user,
+            latest: Latest::kept(lines, latch),
         };
         CoreStep {
             next,

@@ -57,8 +57,8 @@ pub fn core_in(numbers: &[u64]) -> Core {
         timers: timers_in(numbers),
         sync: sync_in(numbers),
         blind,
-        latest,
         user,
+        latest,
     }
 }
 

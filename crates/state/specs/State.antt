@@ -34,7 +34,7 @@ use Rattle.supervisor.specs.declared.Supervisor.{Supervisor}
 abbrev pub linesKept : Supervisor → Lines
 linesKept s = s .core .latest .lines
 
--- [State.4a] the ready rule with those lines
+-- [State.4a] the ready rule with those lines; [State.4b] TS BUSY is its opposite
 abbrev pub showsReady : Supervisor → Bool
 showsReady s = isReadyOf (linesKept s) (s .core)
 

@@ -144,7 +144,7 @@ mod layout {
     #[repr(C)]
     pub struct Latest(u32, bool);
     #[repr(C)]
-    pub struct Core([[u32; 8]; 2], u32, u32, [u32; 3], Main, Timers, [u16; 2], u8, Latest, bool);
+    pub struct Core([[u32; 8]; 2], u32, u32, [u32; 3], Main, Timers, [u16; 2], [u8; 2], Latest);
     #[repr(C)]
     pub struct Supervisor(Readout, Core);
 }
