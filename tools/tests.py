@@ -197,7 +197,7 @@ class States(unittest.TestCase):
         "rejected": "Idle*3 Delay Front Space Idle*2",
         "prescaled": "Idle*2 Delay Front Space Idle*5 Delay Front Space Idle*3",
         "scheduled_sync": "Delay Front Space Idle*3 Delay Front Synchold*3 Idle Delay Front Space Idle*3",
-        "state": "Delay Front Synchold*5 Idle*2 Delay",
+        "state": "Delay Front Synchold*6 Idle*2 Delay",
         "user_sync": "Delay Front Space Idle*9 Delay",
     }
 

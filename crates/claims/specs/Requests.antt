@@ -3,7 +3,7 @@
 -- Assumes nothing.
 use Prim.Native.Nat.{ℕ, suc, _<_}
 use mathlib.Core.Path.{_≡_}
-use mathlib.Core.Bool.{Bool, true}
+use mathlib.Core.Bool.{Bool, true, false}
 use mathlib.Core.List.{List}
 use Rattle.bits.specs.Bits.{bitAt}
 use Rattle.scalers.specs.Scalers.{isSome}
@@ -15,6 +15,8 @@ use Rattle.core.specs.declared.Core.{Core}
 use Rattle.supervisor.specs.Supervisor.{freshOf, resetOf, isSpoiledOf, tickedOf}
 use Rattle.supervisor.specs.declared.Supervisor.{Supervisor}
 use Rattle.state.specs.State.{stateBitAt, stateOf, keptIn, ShowsTick}
+use Rattle.declines.specs.Answers.{declined, value}
+use Rattle.declines.specs.Runs.{writeRegister, readRegister, askOf}
 use Rattle.declines.specs.Kept.{KeepsTheLatestTick}
 use Rattle.bench.specs.Bench.{allRight}
 use Rattle.bench.specs.Blind.{blindExamples}
@@ -49,6 +51,17 @@ abbrev pub BlindExamples : Type 0
 BlindExamples = allRight blindExamples ≡ true
 
 -- ---- N2: the STATE register
+
+-- [State.8a] A record that is not spoiled answers a read of register 20 with its STATE; [State.8b] it declines a write with
+-- 3, active or not, and is left as it is.
+abbrev pub StateIsRead : Type 0
+StateIsRead =
+    (memory : List ℕ) (s : Supervisor) → isSpoiledOf s ≡ false → askOf (readRegister 20) memory s .reply ≡ value (stateOf s)
+
+abbrev pub StateIsNotWritten : Type 0
+StateIsNotWritten =
+    (v : ℕ) (memory : List ℕ) (s : Supervisor) → isSpoiledOf s ≡ false
+    → askOf (writeRegister 20 v) memory s ≡ record { reply = declined 3; next = s }
 
 -- [State.2] Every bit of the word that a read gives is its test of the list; past the last there is none.
 abbrev pub StateShowsItsBits : Type 0

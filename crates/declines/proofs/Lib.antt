@@ -1,4 +1,4 @@
 -- The laws, in the order of reading. Assumes nothing.
 pub mod CallEnds
 pub mod CallsLaws
-pub mod KeptLaws
+pub mod StateCallsLaws

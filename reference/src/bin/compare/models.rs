@@ -57,7 +57,7 @@ macro_rules! model {
                     sync_count: word(SYNC_COUNT),
                     user_sync_waiting: n[WAITING] == 1,
                     blind: word(BLIND),
-                    kept_lines: n[KEPT_LINES] as u32,
+                    kept_lines: word(KEPT_LINES),
                     latched: n[LATCHED] & 1 == 1,
                     kept_acknowledges: word(KEPT_ACKNOWLEDGES),
                     branches: std::array::from_fn(branch),

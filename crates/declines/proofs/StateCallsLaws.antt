@@ -1,9 +1,11 @@
--- What a record keeps of the latest tick is what a bystander finds in the log.
---     end-keeps-kept       however a call ends
---     every-run-keeps-the-latest-tick   after every list of calls
+-- The calls on STATE, and what a record keeps for it: what a bystander finds of the latest tick in the log.
+--     state-is-read, state-is-not-written   a read is answered, a write gets 3
+--     end-keeps-kept       what is kept, however a call ends
+--     every-run-keeps-the-latest-tick   .. and after every list of calls
 -- Assumes nothing.
 use Prim.Native.Nat.{ℕ}
 use mathlib.Core.Path.{_≡_, refl, ap, _∙_}
+use mathlib.Core.Bool.{false}
 use mathlib.Core.List.{List}
 use Rattle.registers.specs.Csr as csr
 use Rattle.registers.specs.Registers.{numberedOf}
@@ -18,15 +20,32 @@ use Rattle.registers.specs.declared.register.Register.the-variants as register
 use Rattle.branches.specs.Readout as readout
 use Rattle.core.specs.Core as core
 use Rattle.supervisor.specs.Supervisor.{freshOf, initializedOf, resetOf, tickedOf, joinedOf, coreStepOf, readoutStepOf}
+use Rattle.supervisor.specs.Supervisor.{isSpoiledOf}
 use Rattle.supervisor.specs.declared.Supervisor.{Supervisor}
-use Rattle.access.specs.Access.{afterCsrOf, csrWrittenOf, settingWrittenOf, writtenOf}
-use Rattle.state.specs.State.{keptIn}
-use Rattle.declines.specs.Answers.{Reply}
-use Rattle.declines.specs.Calls.{markedOf}
-use Rattle.declines.specs.Runs.{Ask, Call, Entry, logOf, recordAfter}
-use Rattle.declines.specs.Kept.{nothingKept, keptAfterRequest, keptAfterWrite, keptAfter, keptOf, KeepsTheLatestTick}
+use Rattle.state.specs.State.{stateOf, keptIn}
+use Rattle.access.specs.Access.{afterCsrOf, csrWrittenOf, settingWrittenOf, writtenOf, storedOf}
+use Rattle.declines.specs.Answers.{Reply, declined, value}
+use Rattle.declines.specs.Calls.{markedOf, writeRegisterOf, readRegisterOf}
+use Rattle.declines.specs.Runs.{Ask, writeRegister, readRegister, askOf, Entry}
+use Rattle.declines.specs.Kept.{keptAfterRequest, keptAfterWrite, keptAfter, keptOf, KeepsTheLatestTick}
 use Rattle.declines.proofs.CallEnds.{End, refused, refusedActive, wrote, gave, stored, ran}
 use Rattle.declines.proofs.CallEnds.{Chain, stop, then, run-is-chain}
+
+-- ---- the calls
+
+-- [State.8a]
+pub state-is-read : (memory : List ℕ) (s : Supervisor) → isSpoiledOf s ≡ false
+    → askOf (readRegister 20) memory s .reply ≡ value (stateOf s)
+unfolding readRegisterOf numberedOf storedOf
+state-is-read memory s clean = rw clean
+
+-- [State.8b] active or not
+pub state-is-not-written : (v : ℕ) (memory : List ℕ) (s : Supervisor) → isSpoiledOf s ≡ false
+    → askOf (writeRegister 20 v) memory s ≡ record { reply = declined 3; next = s }
+unfolding writeRegisterOf numberedOf
+state-is-not-written v memory s clean = rw clean
+
+-- ---- what is kept
 
 module _ (s : Supervisor) where
   -- [CSRWrite.1] [CSRWrite.2d]
