@@ -15,10 +15,11 @@ use Rattle.supervisor.specs.declared.Supervisor.{Supervisor}
 use Rattle.declines.specs.Answers.{Reply}
 use Rattle.declines.specs.Calls.{markedOf}
 use Rattle.declines.specs.Runs.{Ask, Call, recordAfter, Entry, logOf}
+use Rattle.declines.specs.Follow.{afterCall}
 use Rattle.declines.proofs.CallEnds.{End, refused, refusedActive, wrote, gave, stored, ran}
 use Rattle.declines.proofs.CallEnds.{Chain, stop, then, run-is-chain}
 use Rattle.account.specs.AccountFields.{Account}
-use Rattle.account.specs.Account.{start, afterEntry, accountOf}
+use Rattle.account.specs.Account.{start, rules, accountOf}
 use Rattle.account.specs.Demand3.{Balanced, Demand3, wordsOf}
 use Rattle.account.proofs.Invariant.{Invariant}
 use Rattle.account.proofs.WriteLaw.{fresh-has-invariant, write-keeps-invariant}
@@ -32,7 +33,7 @@ Kept branches s a = Invariant branches (s .core) (s .readout .branches) a
 
 -- [Account.5] a refusal and a value read leave the account alone; a status bit is nothing that it follows
 end-keeps-invariant : {branches : ℕ} {memory : List ℕ} {s : Supervisor} {ask : Ask} {reply : Reply} {next : Supervisor}
-    (a : Account) → Kept branches s a → End memory s ask reply next → Kept branches next (afterEntry ask reply a)
+    (a : Account) → Kept branches s a → End memory s ask reply next → Kept branches next (afterCall rules ask reply a)
 unfolding markedOf
 end-keeps-invariant a v (refused ask n h) = v
 end-keeps-invariant a v (refusedActive ask) = v

@@ -10,13 +10,12 @@
 -- Assumes nothing.
 use Prim.Native.Nat.{ℕ, _+_, _-_}
 use mathlib.Core.Bool.{Bool, false, not, _&&_, _||_}
-use mathlib.Core.List.{List, [], _∷_, _++_}
+use mathlib.Core.List.{List, [], _++_}
 use lib.ListN.{getD}
 use Rattle.bits.specs.Notation.{_▷_}
 use Rattle.bits.specs.Bits.{bitAt, oneIfOf}
 use Rattle.registers.specs.Csr.{requestedOf}
 use Rattle.registers.specs.Control.{counts}
-use Rattle.registers.specs.Registers.{numberedOf}
 use Rattle.registers.specs.declared.csr.Request.{Request}
 use Rattle.registers.specs.declared.csr.Request.the-variants.{Nothing, Reset, Initialize}
 use Rattle.registers.specs.declared.register.Register.{Register}
@@ -32,8 +31,8 @@ use Rattle.scalers.specs.Scalers.{isSome}
 use Rattle.trigger.specs.Lines.{hasStrobe}
 use Rattle.trigger.specs.declared.lines.Inputs.{Inputs}
 use Rattle.supervisor.specs.declared.Answer.{Answer}
-use Rattle.declines.specs.Answers.{Reply, declined, done, value, ticked}
-use Rattle.declines.specs.Runs.{Ask, writeRegister, readRegister, writeMemory, readMemory, tick, Entry}
+use Rattle.declines.specs.Runs.{Entry}
+use Rattle.declines.specs.Follow.{Rules, afterLog}
 use Rattle.account.specs.AccountFields.{Settings, Passes, Sums, Events, Account}
 use Rattle.account.specs.AccountFields.{withSettings, withPasses, put}
 
@@ -150,29 +149,9 @@ afterWrite Absent v a = a
 
 -- ---- a whole log
 
--- [Account.5] of the calls that end in "done" a register write alone counts
-abbrev pub afterDone : Ask → Account → Account
-afterDone (writeRegister number v) a = afterWrite (numberedOf number) v a
-afterDone (readRegister number) a = a
-afterDone (writeMemory place word) a = a
-afterDone (readMemory place) a = a
-afterDone (tick x) a = a
+abbrev pub rules : Rules Account
+rules = record { wrote = afterWrite; ran = afterTick }
 
-abbrev pub afterTicked : Ask → Answer → Account → Account
-afterTicked (writeRegister number v) y a = a
-afterTicked (readRegister number) y a = a
-afterTicked (writeMemory place word) y a = a
-afterTicked (readMemory place) y a = a
-afterTicked (tick x) y a = afterTick x y a
-
--- [Account.5] a decline and a value read leave it alone, whatever was asked
-abbrev pub afterEntry : Ask → Reply → Account → Account
-afterEntry ask (declined n) a = a
-afterEntry ask (value v) a = a
-afterEntry ask done a = afterDone ask a
-afterEntry ask (ticked y) a = afterTicked ask y a
-
--- [Account.3]
+-- [Account.3] [Account.5]
 abbrev pub accountOf : List Entry → Account → Account
-accountOf [] a = a
-accountOf (e ∷ es) a = accountOf es (afterEntry (e .ask) (e .reply) a)
+accountOf log a = afterLog rules log a

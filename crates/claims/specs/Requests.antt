@@ -14,10 +14,10 @@ use Rattle.core.specs.Core as core
 use Rattle.core.specs.declared.Core.{Core}
 use Rattle.supervisor.specs.Supervisor.{freshOf, resetOf, isSpoiledOf, tickedOf}
 use Rattle.supervisor.specs.declared.Supervisor.{Supervisor}
-use Rattle.state.specs.State.{stateBitAt, stateOf, keptIn, ShowsTick}
+use Rattle.state.specs.State.{stateBitAt, stateOf, latestTickIn, ShowsTick}
 use Rattle.declines.specs.Answers.{declined, value}
 use Rattle.declines.specs.Runs.{writeRegister, readRegister, askOf}
-use Rattle.declines.specs.Kept.{KeepsTheLatestTick}
+use Rattle.declines.specs.LatestTick.{KeepsTheLatestTick}
 use Rattle.bench.specs.Bench.{allRight}
 use Rattle.bench.specs.Blind.{blindExamples}
 use Rattle.bench.specs.State.{stateExamples}
@@ -73,7 +73,7 @@ FreshStateReads = stateOf (freshOf moduleBranches) ≡ 0x49242000
 
 -- [State.3] RESET keeps what is kept of the latest tick: its lines, whether it latched a pattern, its acknowledges.
 abbrev pub ResetKeepsLatest : Type 0
-ResetKeepsLatest = (s : Supervisor) → keptIn (resetOf s) ≡ keptIn s
+ResetKeepsLatest = (s : Supervisor) → latestTickIn (resetOf s) ≡ latestTickIn s
 
 -- [State.3] [State.6] [State.7] After a tick that runs, bits 2, 3, 6, 7, 10, 11 and 12 are that tick's.
 abbrev pub StateShowsTheTick : Type 0

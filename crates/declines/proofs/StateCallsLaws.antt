@@ -1,6 +1,6 @@
 -- The calls on STATE, and what a record keeps for it: what a bystander finds of the latest tick in the log.
 --     state-is-read, state-is-not-written   a read is answered, a write gets 3
---     end-keeps-kept       what is kept, however a call ends
+--     end-keeps-latest       what is kept, however a call ends
 --     every-run-keeps-the-latest-tick   .. and after every list of calls
 -- Assumes nothing.
 use Prim.Native.Nat.{ℕ}
@@ -22,12 +22,13 @@ use Rattle.core.specs.Core as core
 use Rattle.supervisor.specs.Supervisor.{freshOf, initializedOf, resetOf, tickedOf, joinedOf, coreStepOf, readoutStepOf}
 use Rattle.supervisor.specs.Supervisor.{isSpoiledOf}
 use Rattle.supervisor.specs.declared.Supervisor.{Supervisor}
-use Rattle.state.specs.State.{stateOf, keptIn}
+use Rattle.state.specs.State.{stateOf, latestTickIn}
 use Rattle.access.specs.Access.{afterCsrOf, csrWrittenOf, settingWrittenOf, writtenOf, storedOf}
 use Rattle.declines.specs.Answers.{Reply, declined, value}
 use Rattle.declines.specs.Calls.{markedOf, writeRegisterOf, readRegisterOf}
 use Rattle.declines.specs.Runs.{Ask, writeRegister, readRegister, askOf, Entry}
-use Rattle.declines.specs.Kept.{keptAfterRequest, keptAfterWrite, keptAfter, keptOf, KeepsTheLatestTick}
+use Rattle.declines.specs.Follow.{afterCall, afterLog}
+use Rattle.declines.specs.LatestTick.{afterRequest, afterWrite, rules, KeepsTheLatestTick}
 use Rattle.declines.proofs.CallEnds.{End, refused, refusedActive, wrote, gave, stored, ran}
 use Rattle.declines.proofs.CallEnds.{Chain, stop, then, run-is-chain}
 
@@ -49,13 +50,13 @@ state-is-not-written v memory s clean = rw clean
 
 module _ (s : Supervisor) where
   -- [CSRWrite.1] [CSRWrite.2d]
-  request-keeps : (r : Request) (w : CsrWrite) → keptIn (afterCsrOf r w s) ≡ keptAfterRequest r (keptIn s)
+  request-keeps : (r : Request) (w : CsrWrite) → latestTickIn (afterCsrOf r w s) ≡ afterRequest r (latestTickIn s)
   unfolding initializedOf resetOf freshOf core.freshOf core.resetOf readout.emptiedOf
   request-keeps Initialize w = refl
   request-keeps Reset w = refl
   request-keeps Nothing w = refl
 
-  setting-keeps : (r : Setting) (v : ℕ) → keptIn (settingWrittenOf r v s) ≡ keptIn s
+  setting-keeps : (r : Setting) (v : ℕ) → latestTickIn (settingWrittenOf r v s) ≡ latestTickIn s
   unfolding settingWrittenOf
   setting-keeps Control v = refl
   setting-keeps (Factor input) v = refl
@@ -63,7 +64,7 @@ module _ (s : Supervisor) where
   setting-keeps Interval v = refl
   setting-keeps (Timer n) v = refl
 
-  write-keeps : (r : Register) (v : ℕ) → keptIn (writtenOf r v s) ≡ keptAfterWrite r v (keptIn s)
+  write-keeps : (r : Register) (v : ℕ) → latestTickIn (writtenOf r v s) ≡ afterWrite r v (latestTickIn s)
   unfolding writtenOf csrWrittenOf csr.writtenOf
   write-keeps Csr v = request-keeps (csr.requestedOf v) _
   write-keeps (register.Setting r) v = setting-keeps r v
@@ -73,21 +74,21 @@ module _ (s : Supervisor) where
   write-keeps Absent v = refl
 
   -- [State.3]
-  pub end-keeps-kept : {memory : List ℕ} {a : Ask} {reply : Reply} {next : Supervisor} → End memory s a reply next
-      → keptIn next ≡ keptAfter a reply (keptIn s)
+  pub end-keeps-latest : {memory : List ℕ} {a : Ask} {reply : Reply} {next : Supervisor} → End memory s a reply next
+      → latestTickIn next ≡ afterCall rules a reply (latestTickIn s)
   unfolding markedOf tickedOf joinedOf coreStepOf readoutStepOf core.stepOf core.settledOf readout.stepOf
-  end-keeps-kept (refused a n h) = refl
-  end-keeps-kept (refusedActive a) = refl
-  end-keeps-kept (wrote number v valid) = write-keeps (numberedOf number) v
-  end-keeps-kept (gave a v) = refl
-  end-keeps-kept (stored place word) = refl
-  end-keeps-kept (ran x clean) = refl
+  end-keeps-latest (refused a n h) = refl
+  end-keeps-latest (refusedActive a) = refl
+  end-keeps-latest (wrote number v valid) = write-keeps (numberedOf number) v
+  end-keeps-latest (gave a v) = refl
+  end-keeps-latest (stored place word) = refl
+  end-keeps-latest (ran x clean) = refl
 
-chain-keeps-kept : {log : List Entry} {s last : Supervisor} → Chain log s last → keptIn last ≡ keptOf log (keptIn s)
-chain-keeps-kept stop = refl
-chain-keeps-kept (then {log = log} {s = s} end rest) = chain-keeps-kept rest ∙ ap (keptOf log) (end-keeps-kept s end)
+chain-keeps-latest : {log : List Entry} {s last : Supervisor} → Chain log s last → latestTickIn last ≡ afterLog rules log (latestTickIn s)
+chain-keeps-latest stop = refl
+chain-keeps-latest (then {log = log} {s = s} end rest) = chain-keeps-latest rest ∙ ap (afterLog rules log) (end-keeps-latest s end)
 
 -- [State.3]
 pub every-run-keeps-the-latest-tick : (branches : ℕ) → KeepsTheLatestTick branches
 unfolding freshOf core.freshOf
-every-run-keeps-the-latest-tick n calls = chain-keeps-kept (run-is-chain calls (freshOf n))
+every-run-keeps-the-latest-tick n calls = chain-keeps-latest (run-is-chain calls (freshOf n))

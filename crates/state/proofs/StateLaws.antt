@@ -20,7 +20,7 @@ use Rattle.trigger.specs.declared.lines.Inputs.{Inputs}
 use Rattle.core.specs.Core as core
 use Rattle.supervisor.specs.Supervisor.{freshOf, resetOf, isActiveOf, coreStepOf, joinedOf, tickedOf}
 use Rattle.supervisor.specs.declared.Supervisor.{Supervisor}
-use Rattle.state.specs.State.{stateBitsOf, stateBitAt, stateOf, stateByteOf, keptIn, ShowsTick}
+use Rattle.state.specs.State.{stateBitsOf, stateBitAt, stateOf, stateByteOf, latestTickIn, ShowsTick}
 
 module _ (s : Supervisor) where
   -- the bits from place p on, as many as are asked for
@@ -58,7 +58,7 @@ unfolding stateOf stateBitsOf freshOf core.freshOf maskOf every isActiveOf isEmp
 fresh-state-reads = refl
 
 -- [State.3]
-pub reset-keeps : (s : Supervisor) → keptIn (resetOf s) ≡ keptIn s
+pub reset-keeps : (s : Supervisor) → latestTickIn (resetOf s) ≡ latestTickIn s
 unfolding resetOf core.resetOf emptiedOf
 reset-keeps s = refl
 

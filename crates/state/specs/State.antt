@@ -2,7 +2,8 @@
 --     document 02     N2; source document 001, section 3.11
 --     stateBitsOf     the 32 tests, bit 0 first, each by its name in section 3.11
 --     stateOf         the word that they make; stateByteOf: its bytes
---     Kept, keptIn    what a record keeps of the latest tick; ShowsTick: that STATE shows what a tick brought and latched
+--     LatestTick, latestTickIn   what a record keeps of the latest tick
+--     ShowsTick       that STATE shows what a tick brought, and whether it latched a pattern
 -- The lines and the latched trigger are those of the latest tick that ran, as are the acknowledges; all else, the enabled
 -- controllers too, is the record as it stands at the read.
 -- Own rules of 02 used here: none. Decisions: R6. Left out: nothing.
@@ -100,12 +101,12 @@ stateByteOf b s = maskOf 8 (λ i. stateBitAt s (8 * b + i))
 -- ---- facts and statements
 
 -- [State.3] all that a record keeps of the latest tick that ran
-pub record Kept : Type 0 where
-  pub latest : Latest
+pub record LatestTick : Type 0 where
+  pub kept : Latest
   pub acks : ℕ
 
-abbrev pub keptIn : Supervisor → Kept
-keptIn s = record { latest = s .core .latest; acks = s .readout .acks }
+abbrev pub latestTickIn : Supervisor → LatestTick
+latestTickIn s = record { kept = s .core .latest; acks = s .readout .acks }
 
 -- [State.7] a pattern is latched where it is rejected or accepted
 abbrev pub hasLatched : Masks → Bool
