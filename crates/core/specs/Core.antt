@@ -8,7 +8,7 @@
 --     linesOutOf     the lines out
 --     isActiveOf     its part of the active rule
 -- [Tick.2]: each part below is a function of the record as the tick found it, and of nothing that another part changed.
--- Own rules of 01 used here: none. Decisions: T1, T2, T4, T8, R6, A4, F4. Left out: the spoiled rule, in Spoiled.
+-- Own rules of 01 used here: none. Decisions: T1, T2, T4, T8, R6, A4. Left out: the spoiled rule, in Spoiled.
 -- Assumes nothing.
 use Prim.Native.Nat.{ℕ, _+_, _*_, _%_}
 use mathlib.Core.Bool.{Bool, not, _&&_, _||_}

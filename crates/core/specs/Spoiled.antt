@@ -3,7 +3,7 @@
 --     allowsEightOf  whether a queue may hold eight words
 --     isSoundOf      no clause of the core spoils the record
 -- What is kept of the latest tick, and the acknowledges, spoil nothing.
--- Own rules of 01 used here: none. Decisions: A2, A4, R6. Left out: the branches' clauses, in branches.
+-- Own rules of 01 used here: none. Decisions: A2, R6, F4. Left out: the branches' clauses, in branches.
 -- Assumes nothing.
 use mathlib.Core.Bool.{Bool, not, _||_}
 use mathlib.Core.List.{List, [], _∷_, _++_}

@@ -19,8 +19,8 @@ use Rattle.branches.specs.Readout.{isEmptyOf, hasRoomOf}
 use Rattle.branches.specs.Handshakes.{strobeAt, andAt, orAt}
 use Rattle.sequencer.specs.States.{isIdle, isSyncHold}
 use Rattle.sequencer.specs.MainSequencer.{okLine, start2Line, accept2Line, start3Line, accept3Line, isRaised, isClearing}
-use Rattle.trigger.specs.Lines.{hasPass2, hasFail2, hasPass3, hasFail3, hasFrontBusy, hasInhibit}
 use Rattle.scalers.specs.Scalers.{isSome}
+use Rattle.trigger.specs.Lines.{hasPass2, hasFail2, hasPass3, hasFail3, hasFrontBusy, hasInhibit}
 use Rattle.trigger.specs.declared.lines.Lines.{Lines}
 use Rattle.trigger.specs.declared.lines.Inputs.{Inputs}
 use Rattle.trigger.specs.declared.latch.Masks.{Masks}
