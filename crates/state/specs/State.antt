@@ -49,7 +49,8 @@ showsFull s = not (hasRoomOf (csr.locksRoc (s .core .csr)) (csr.locksBranch4 (s 
 
 -- ---- the 32 bits
 
--- [State.2] the bits of section 3.11, in its order
+-- [State.2] the bits of section 3.11, in its order; [State.6] pass and fail are the plain lines; [State.7] bits 0, 12 and
+-- 19, and AND and OR of each branch
 unfoldable pub stateBitsOf : Supervisor → List Bool
 stateBitsOf s =
     isRaised okLine (s .core .main)  --  0 [State.7] LEVEL 1 ACCEPT
