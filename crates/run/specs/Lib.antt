@@ -1,0 +1,2 @@
+-- The definitions. Nothing is decided here. Assumes nothing.
+pub mod Run
