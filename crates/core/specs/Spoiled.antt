@@ -23,7 +23,7 @@ allowsEightOf c = isLoaded (c .main .state) || c .user .waiting
 
 -- ---- the clauses of the spoiled rule on the core, in three groups: all hold in a record that is not spoiled
 
--- [Spoiled.1e] [Spoiled.1a] the prescalers
+-- [Spoiled.1a] the prescalers; [Bytes.9] in place of [Spoiled.1e]
 abbrev pub bankClauses : Core → List Bool
 bankClauses c = prescaler.hasCountersWithinOf (c .prescalers) ∷ prescaler.hasValidFactorsOf (c .prescalers) ∷ []
 

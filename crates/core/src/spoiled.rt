@@ -16,7 +16,7 @@ impl Core {
         state.is_loaded() | user.waiting
     }
 
-    // [Spoiled.1a] [Spoiled.1e] [Spoiled.1h] [Spoiled.1k] [Blind.3] and main's, in the order of the definition
+    // [Spoiled.1a] [Spoiled.1h] [Spoiled.1k] [Blind.3] [Bytes.9] and main's, in the order of the definition
     pub fn is_sound(self) -> bool
         ensures { λ r. ⌜ r ≡ isSoundOf self ⌝ }
     {

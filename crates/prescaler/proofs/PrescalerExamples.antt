@@ -32,7 +32,7 @@ areSame (true ∷ ts) (u ∷ us) = u && areSame ts us
 areSame (false ∷ ts) (u ∷ us) = not u && areSame ts us
 
 abbrev pub isRight : Run → Bool
-isRight x = areSame (passesIn (x .input) (x .runs) (withFactorOf (x .input) (x .factor) freshOf)) (x .passed)
+isRight x = areSame (passesIn (x .input) (x .runs) (withFactorOf true (x .input) (x .factor) freshOf)) (x .passed)
 
 abbrev pub allRight : List Run → Bool
 allRight [] = true

@@ -9,8 +9,7 @@
 --     loaded-has-pass-count              a counter just loaded has the count 0
 --     step-stands-at                     the counter and the factor of each input after a step
 --     bank-stays, stopped-keeps-bank     a bank of which no counter moves, as where it does not run
---     step-keeps-factors, step-keeps-lengths, step-keeps-within
---     within-at, at-within               the test of the code, as facts of each input
+--     step-keeps-factors, step-keeps-lengths
 -- Assumes nothing.
 use Prim.Native.Nat.{ℕ, _+_, _-_, _*_, _/_, _<_, _≤_}
 use mathlib.Core.Path.{_≡_, refl, sym, ap, ap₂, _∙_}
@@ -24,7 +23,6 @@ use lib.ListN.{length, getD, List·getD-eq-default}
 use borrow.Author.Tests.{eqb-true, eqb-false, ltb-true, ltb-false, leb-true, eq-eqb, ne-eqb, le-leb, lt-leb}
 use Rattle.bits.specs.Notation.{_▷_}
 use Rattle.bits.specs.Bits.{bitAt, oneIfOf, maskOf, tabulate}
-use Rattle.bits.proofs.TestLaws.{every-at, at-every}
 use Rattle.bits.proofs.BitsLaws.{mask-at-below}
 use Rattle.bits.proofs.BitsLaws.{tabulate-at, tabulate-past, tabulate-length, tabulate-same, tabulate-getD}
 use Rattle.prescaler.specs.PrescalerFields.{withCounters, counterAt, factorAt}
@@ -32,7 +30,7 @@ use Rattle.registers.specs.Control.{inputs}
 use Rattle.prescaler.specs.Prescaler.{prescaledInputs}
 use Rattle.prescaler.specs.Prescaler.{Fate, absent, stopped, scaled, passed, fateOf, counterAfter}
 use Rattle.prescaler.specs.Prescaler.{FateFacts, factsOf, isAtZero, fateAt, counterAfterAt, stepOf}
-use Rattle.prescaler.specs.Prescaler.{hasCountersWithinOf, EightPlaces, PassCount}
+use Rattle.prescaler.specs.Prescaler.{EightPlaces, PassCount}
 use Rattle.prescaler.specs.declared.Prescalers.{Prescalers}
 
 -- ---- what the laws say of a bank and of a step
@@ -78,12 +76,6 @@ stopped-stays : (counted atZero : Bool) (counter factor : ℕ)
     → counterAfter (fateOf counted false atZero) counter factor ≡ counter
 stopped-stays true atZero counter factor = refl
 stopped-stays false atZero counter factor = refl
-
-counter-stays-within : (f : Fate) (counter factor : ℕ) → counter ≤ factor → counterAfter f counter factor ≤ factor
-counter-stays-within absent counter factor h = h
-counter-stays-within stopped counter factor h = h
-counter-stays-within scaled counter factor h = omega arith
-counter-stays-within passed counter factor h = le-refl factor
 
 no-counter-stays : (f : Fate) → counterAfter f 0 0 ≡ 0
 no-counter-stays absent = refl
@@ -247,28 +239,3 @@ pub stopped-keeps-bank : (pulses : ℕ) (b : Prescalers) → EightPlaces b → s
 stopped-keeps-bank pulses b eight =
     bank-stays false pulses b (eight .counters)
     (λ i h. stopped-stays (bitAt pulses i) (isAtZero b i) (counterAt b i) (factorAt b i))
-
--- ---- no counter above its factor
-
--- [Spoiled.1e] the test, as facts of each input
-pub within-at : (b : Prescalers) → hasCountersWithinOf b ≡ true
-    → (i : ℕ) → i < prescaledInputs → counterAt b i ≤ factorAt b i
-unfolding hasCountersWithinOf
-within-at b h i k =
-    leb-true (counterAt b i) (factorAt b i) (every-at prescaledInputs (λ j. leb (counterAt b j) (factorAt b j)) h i k)
-
-pub at-within : (b : Prescalers) → ((i : ℕ) → i < prescaledInputs → counterAt b i ≤ factorAt b i)
-    → hasCountersWithinOf b ≡ true
-unfolding hasCountersWithinOf
-at-within b h =
-    at-every prescaledInputs (λ j. leb (counterAt b j) (factorAt b j))
-    (λ i k. le-leb (counterAt b i) (factorAt b i) (h i k))
-
-pub step-keeps-within : (runs : Bool) (pulses : ℕ) (b : Prescalers)
-    → hasCountersWithinOf b ≡ true → hasCountersWithinOf (stepOf runs pulses b .next) ≡ true
-unfolding stepOf
-step-keeps-within runs pulses b h =
-    at-within (stepOf runs pulses b .next)
-    (λ i k.
-    rw (tabulate-at prescaledInputs (counterAfterAt runs pulses b) i 0 k)
-    (counter-stays-within (fateAt runs pulses b i) (counterAt b i) (factorAt b i) (within-at b h i k)))

@@ -1,30 +1,32 @@
 -- Laws of the loads of a prescale counter: a factor written, RESET, the fresh bank, and the first pulse after.
---     with-factor-loads, with-factor-keeps-others                   the counter and the factor of each input after a load
+--     with-factor-loads, ..-keeps-counter, ..-keeps-others          the counter and the factor of each input after a write
+--     with-factor-leaves-counters        every counter, after a write without BYTE(3)
 --     with-factor-has-, reloaded-has-, fresh-has-pass-count         what was just loaded has the count 0
---     ..-lengths, ..-within              of each load: eight places; no counter above its factor
+--     ..-lengths, ..-valid, ..-within    of each of them: eight places; factors and counters that fit
 --     first-pulse-scaled, first-pulse-scaled-after-reset            after a load with a factor above 0
 -- Assumes nothing.
-use Prim.Native.Nat.{ℕ, _+_, _-_, _<_, _≤_}
+use Prim.Native.Nat.{ℕ, suc, _+_, _-_, _<_, _≤_}
 use mathlib.Core.Path.{_≡_, refl, ap, _∙_}
 use mathlib.Core.Bool.{Bool, true, false, cond}
 use mathlib.Core.List.{List}
 use mathlib.Core.Logic.{_≢_}
 use native.Mathlib.Omega.{arith}
-use native.Mathlib.Nat.{le-refl}
-use lib.Dec.{eqb, leb}
+use lib.Dec.{leb}
 use lib.ListN.{length, getD, set, length-set}
 use lib.Seq.{getD-set-same, getD-set-other}
-use borrow.Author.Tests.{eqb-true, eqb-false, leb-true, le-leb}
+use borrow.Author.Tests.{leb-true, le-leb}
 use Rattle.bits.specs.Notation.{_▷_}
-use Rattle.bits.specs.Bits.{bitAt}
-use Rattle.bits.proofs.TestLaws.{and-left}
+use Rattle.bits.specs.Bits.{bitAt, every}
+use Rattle.bits.proofs.TestLaws.{and-left, by-cond}
+use Rattle.registers.specs.Registers.{isValidFactor}
 use Rattle.prescaler.specs.PrescalerFields.{withCounters, withFactors, counterAt, factorAt}
 use Rattle.prescaler.specs.Prescaler.{prescaledInputs, freshOf, isPrescaledOf, withFactorOf, reloadedOf}
-use Rattle.prescaler.specs.Prescaler.{Fate, factsOf, stepOf, hasCountersWithinOf, EightPlaces, ScaledAt}
-use Rattle.prescaler.specs.Prescaler.{PassCount}
+use Rattle.prescaler.specs.Prescaler.{Fate, factsOf, stepOf, allFitOf, hasCountersWithinOf, hasValidFactorsOf}
+use Rattle.prescaler.specs.Prescaler.{EightPlaces, ScaledAt, PassCount}
 use Rattle.prescaler.specs.declared.Prescalers.{Prescalers}
 use Rattle.prescaler.proofs.PrescalerLaws.{StandsAt, scaled-at, passed-at, above-zero-is-scaled}
-use Rattle.prescaler.proofs.PrescalerLaws.{loaded-has-pass-count, within-at, at-within}
+use Rattle.prescaler.proofs.PrescalerLaws.{loaded-has-pass-count}
+use Rattle.prescaler.proofs.PrescalerWidths.{set-keeps-fit}
 
 -- ---- a factor written: input is counted from 1, and i + 1 is the input of place i
 
@@ -39,65 +41,99 @@ module _ (input factor i : ℕ) (l : List ℕ) where
   set-reads-other first other = getD-set-other l (input - 1) i factor 0 (λ same. other (omega arith))
 
 module _ (input factor : ℕ) (b : Prescalers) where
-  module _ (i : ℕ) (written : i + 1 ≡ input) (h : i < prescaledInputs) (eight : EightPlaces b) where
-    -- [Registers.2] writing a factor loads the counter
-    pub with-factor-loads : StandsAt (withFactorOf input factor b) i factor factor
+  -- the counters after a write that has BYTE(3) or not
+  abbrev countersAfter : (loads : Bool) → List ℕ
+  countersAfter loads = cond loads (set (b .counters) (input - 1) factor) (b .counters)
+
+  abbrev written : (loads : Bool) → Prescalers
+  written loads = b ▷ withCounters (countersAfter loads) ▷ withFactors (set (b .factors) (input - 1) factor)
+
+  module _ (i : ℕ) (place : i + 1 ≡ input) (h : i < prescaledInputs) (eight : EightPlaces b) where
+    is-prescaled : isPrescaledOf input ≡ true
+    is-prescaled = rw (le-leb 1 input (omega arith), le-leb input prescaledInputs (omega arith))
+
+    -- [Registers.2] writing a factor with BYTE(3) loads the counter
+    pub with-factor-loads : StandsAt (withFactorOf true input factor b) i factor factor
     unfolding withFactorOf
     with-factor-loads =
-        rw (le-leb 1 input (omega arith), le-leb input prescaledInputs (omega arith))
+        rw is-prescaled
         (record {
-          counter = set-reads-written input factor i (b .counters) written h (eight .counters);
-          factor = set-reads-written input factor i (b .factors) written h (eight .factors);
+          counter = set-reads-written input factor i (b .counters) place h (eight .counters);
+          factor = set-reads-written input factor i (b .factors) place h (eight .factors);
         })
 
+    -- [Bytes.4a] without it the counter stands
+    pub with-factor-keeps-counter : StandsAt (withFactorOf false input factor b) i (counterAt b i) factor
+    unfolding withFactorOf
+    with-factor-keeps-counter =
+        rw is-prescaled
+        (record { counter = refl; factor = set-reads-written input factor i (b .factors) place h (eight .factors) })
+
     pub with-factor-has-pass-count
-        : PassCount 0 0 (counterAt (withFactorOf input factor b) i) (factorAt (withFactorOf input factor b) i)
+        : PassCount 0 0 (counterAt (withFactorOf true input factor b) i) (factorAt (withFactorOf true input factor b) i)
     with-factor-has-pass-count =
         rw (with-factor-loads .counter, with-factor-loads .factor) (loaded-has-pass-count factor)
 
-  abbrev loaded : Prescalers
-  loaded = b ▷ withCounters (set (b .counters) (input - 1) factor) ▷ withFactors (set (b .factors) (input - 1) factor)
-
   -- the other inputs are untouched, and all of them where the input has no prescaler
-  pub with-factor-keeps-others : (i : ℕ) → i + 1 ≢ input
-      → StandsAt (withFactorOf input factor b) i (counterAt b i) (factorAt b i)
+  pub with-factor-keeps-others : (loads : Bool) (i : ℕ) → i + 1 ≢ input
+      → StandsAt (withFactorOf loads input factor b) i (counterAt b i) (factorAt b i)
   unfolding withFactorOf
-  with-factor-keeps-others i other = go (isPrescaledOf input) refl
+  with-factor-keeps-others loads i other = go (isPrescaledOf input) refl loads
     where
-      go : (t : Bool) → isPrescaledOf input ≡ t → StandsAt (cond t loaded b) i (counterAt b i) (factorAt b i)
-      go true e =
-          let first : 1 ≤ input = leb-true 1 input (and-left (leb 1 input) (leb input prescaledInputs) e) in
-          record {
-            counter = set-reads-other input factor i (b .counters) first other;
-            factor = set-reads-other input factor i (b .factors) first other;
-          }
-      go false e = record { counter = refl; factor = refl }
+      go : (t : Bool) → isPrescaledOf input ≡ t → (loads : Bool)
+          → StandsAt (cond t (written loads) b) i (counterAt b i) (factorAt b i)
+      go false e loads = record { counter = refl; factor = refl }
+      go true e loads = record { counter = counter loads; factor = set-reads-other input factor i (b .factors) first other }
+        where
+          first : 1 ≤ input
+          first = leb-true 1 input (and-left (leb 1 input) (leb input prescaledInputs) e)
 
-  pub with-factor-keeps-lengths : EightPlaces b → EightPlaces (withFactorOf input factor b)
+          counter : (loads : Bool) → getD (countersAfter loads) i 0 ≡ counterAt b i
+          counter true = set-reads-other input factor i (b .counters) first other
+          counter false = refl
+
+  pub with-factor-keeps-lengths : (loads : Bool) → EightPlaces b → EightPlaces (withFactorOf loads input factor b)
   unfolding withFactorOf
-  with-factor-keeps-lengths eight = go (isPrescaledOf input)
+  with-factor-keeps-lengths loads eight = go (isPrescaledOf input) loads
     where
-      go : (t : Bool) → EightPlaces (cond t loaded b)
-      go true =
-          record {
-            counters = length-set (b .counters) (input - 1) factor ∙ eight .counters;
-            factors = length-set (b .factors) (input - 1) factor ∙ eight .factors;
-          }
-      go false = eight
+      counters : (loads : Bool) → length (countersAfter loads) ≡ prescaledInputs
+      counters true = length-set (b .counters) (input - 1) factor ∙ eight .counters
+      counters false = eight .counters
 
-  pub with-factor-keeps-within : EightPlaces b → hasCountersWithinOf b ≡ true
-      → hasCountersWithinOf (withFactorOf input factor b) ≡ true
-  with-factor-keeps-within eight within =
-      at-within (withFactorOf input factor b) (λ i h. go i h (eqb (i + 1) input) refl)
-    where
-      go : (i : ℕ) → i < prescaledInputs → (t : Bool) → eqb (i + 1) input ≡ t
-          → counterAt (withFactorOf input factor b) i ≤ factorAt (withFactorOf input factor b) i
-      go i h true e =
-          let at = with-factor-loads i (eqb-true (i + 1) input e) h eight in
-          rw (at .counter, at .factor) (le-refl factor)
-      go i h false e =
-          let at = with-factor-keeps-others i (eqb-false (i + 1) input e) in
-          rw (at .counter, at .factor) (within-at b within i h)
+      go : (t loads : Bool) → EightPlaces (cond t (written loads) b)
+      go true loads =
+          record { counters = counters loads; factors = length-set (b .factors) (input - 1) factor ∙ eight .factors }
+      go false loads = eight
+
+  -- [Bytes.4a] without BYTE(3) every counter stands, in range or not
+  pub with-factor-leaves-counters : withFactorOf false input factor b .counters ≡ b .counters
+  unfolding withFactorOf
+  with-factor-leaves-counters =
+      by-cond (λ (x : Prescalers). x .counters ≡ b .counters) (isPrescaledOf input) (λ e. refl) (λ e. refl)
+
+  -- [Widths.1] a factor that its write takes fits as a factor and, loaded, as a counter
+  module _ (valid : isValidFactor input factor ≡ true) where
+    place-fits : isPrescaledOf input ≡ true → isValidFactor (suc (input - 1)) factor ≡ true
+    place-fits e =
+        let first : 1 ≤ input = leb-true 1 input (and-left (leb 1 input) (leb input prescaledInputs) e) in
+        let place : suc (input - 1) ≡ input = omega arith in
+        rw place valid
+
+    pub with-factor-keeps-valid : (loads : Bool) → hasValidFactorsOf b ≡ true
+        → hasValidFactorsOf (withFactorOf loads input factor b) ≡ true
+    unfolding withFactorOf
+    with-factor-keeps-valid loads h =
+        by-cond (λ (x : Prescalers). hasValidFactorsOf x ≡ true) (isPrescaledOf input)
+        (λ e. set-keeps-fit (b .factors) (input - 1) factor (place-fits e) h) (λ e. h)
+
+    pub with-factor-keeps-within : (loads : Bool) → hasCountersWithinOf b ≡ true
+        → hasCountersWithinOf (withFactorOf loads input factor b) ≡ true
+    unfolding withFactorOf
+    with-factor-keeps-within loads h =
+        by-cond (λ (x : Prescalers). hasCountersWithinOf x ≡ true) (isPrescaledOf input)
+        (λ e. by-cond (λ (l : List ℕ). allFitOf l ≡ true) loads
+        (λ l. set-keeps-fit (b .counters) (input - 1) factor (place-fits e) h) (λ l. h))
+        (λ e. h)
 
 -- ---- every counter loaded, and the fresh bank
 
@@ -109,8 +145,9 @@ reloaded-has-pass-count b i = loaded-has-pass-count (factorAt b i)
 pub reloaded-keeps-lengths : (b : Prescalers) → EightPlaces b → EightPlaces (reloadedOf b)
 reloaded-keeps-lengths b eight = record { counters = eight .factors; factors = eight .factors }
 
-pub reloaded-keeps-within : (b : Prescalers) → hasCountersWithinOf (reloadedOf b) ≡ true
-reloaded-keeps-within b = at-within (reloadedOf b) (λ i h. le-refl (factorAt b i))
+-- the counters are then the factors
+pub reloaded-keeps-within : (b : Prescalers) → hasValidFactorsOf b ≡ true → hasCountersWithinOf (reloadedOf b) ≡ true
+reloaded-keeps-within b h = h
 
 -- [Registers.4] the fresh bank stands as if just loaded with 0
 pub fresh-has-pass-count : (i : ℕ) → PassCount 0 0 (counterAt freshOf i) (factorAt freshOf i)
@@ -120,7 +157,8 @@ pub fresh-has-lengths : EightPlaces freshOf
 fresh-has-lengths = record { counters = refl; factors = refl }
 
 pub fresh-has-within : hasCountersWithinOf freshOf ≡ true
-fresh-has-within = at-within freshOf (λ i h. le-refl (factorAt freshOf i))
+unfolding allFitOf every
+fresh-has-within = refl
 
 -- ---- the first pulse after a load
 
@@ -135,9 +173,9 @@ module _ (pulses i : ℕ) (h : i < prescaledInputs) (counted : bitAt pulses i �
 
   -- [Bench.10] a factor above 0 is written: the first counted pulse does not pass
   pub first-pulse-scaled : (input factor : ℕ) (b : Prescalers) → i + 1 ≡ input → EightPlaces b → 0 < factor
-      → ScaledAt (stepOf true pulses (withFactorOf input factor b)) i
+      → ScaledAt (stepOf true pulses (withFactorOf true input factor b)) i
   first-pulse-scaled input factor b written eight above =
-      above-zero-in-masks (withFactorOf input factor b)
+      above-zero-in-masks (withFactorOf true input factor b)
       (rw (with-factor-loads input factor b i written h eight .counter) above)
 
   -- [Bench.10] [CSRWrite.2d] the same after RESET

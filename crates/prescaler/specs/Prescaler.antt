@@ -1,12 +1,12 @@
 -- The prescalers of inputs 1–8: what becomes of each counted pulse, and the counters after it.
---     document 01      "The tick", Pulses; "Registers", the loading of a counter
+--     document 01      "The tick", Pulses; "Registers", the loading of a counter; document 02, N4
 --     fateOf           what becomes of an input's pulse, from the tests of the tick
 --     counterAfter     the counter after it
 --     stepOf           the bank after a tick's counted pulses, with the masks stopped, scaled and passed
 --     withFactorOf     a factor written; reloadedOf: every counter loaded
 --     PassCount        how many pulses have passed, what the laws keep
 -- Bit i and place i are input i + 1.
--- Own rules of 01 used here: none. Decisions: none. Left out: which pulses are counted, in registers.
+-- Own rules of 01 used here: none. Decisions: T7, R7, R8. Left out: which pulses are counted, in registers.
 -- Assumes nothing.
 use Prim.Native.Nat.{ℕ, suc, _+_, _-_, _*_, _%_, _^_, _≤_}
 use mathlib.Core.Path.{_≡_}
@@ -38,12 +38,12 @@ freshOf = record { counters = replicate prescaledInputs 0; factors = replicate p
 abbrev pub isPrescaledOf : (input : ℕ) → Bool
 isPrescaledOf input = leb 1 input && leb input prescaledInputs
 
--- [Registers.2] writing the factor of an input, counted from 1, loads its counter
-unfoldable pub withFactorOf : (input factor : ℕ) → Prescalers → Prescalers
-withFactorOf input factor b =
+-- [Registers.2] [Bytes.4a] writing the factor of an input, counted from 1; with BYTE(3) it loads its counter
+unfoldable pub withFactorOf : (loads : Bool) (input factor : ℕ) → Prescalers → Prescalers
+withFactorOf loads input factor b =
     if isPrescaledOf input
     then b
-    ▷ withCounters (set (b .counters) (input - 1) factor)
+    ▷ withCounters (if loads then set (b .counters) (input - 1) factor else b .counters)
     ▷ withFactors (set (b .factors) (input - 1) factor)
     else b
 
@@ -136,13 +136,17 @@ gatheredOf all pulses b =
 
 -- ---- what of the bank spoils a record
 
--- [Spoiled.1e] no counter is above its factor
-unfoldable pub hasCountersWithinOf : Prescalers → Bool
-hasCountersWithinOf b = every prescaledInputs (λ i. leb (counterAt b i) (factorAt b i))
+-- [Widths.1] each of eight numbers fits the width of its input's factor
+unfoldable pub allFitOf : List ℕ → Bool
+allFitOf values = every prescaledInputs (λ i. isValidFactor (suc i) (getD values i 0))
+
+-- [Bytes.9] in place of [Spoiled.1e]: a counter above its factor is reached, by a factor written without BYTE(3)
+abbrev pub hasCountersWithinOf : Prescalers → Bool
+hasCountersWithinOf b = allFitOf (b .counters)
 
 -- [Spoiled.1a] every factor is one that its write takes
-unfoldable pub hasValidFactorsOf : Prescalers → Bool
-hasValidFactorsOf b = every prescaledInputs (λ i. isValidFactor (suc i) (factorAt b i))
+abbrev pub hasValidFactorsOf : Prescalers → Bool
+hasValidFactorsOf b = allFitOf (b .factors)
 
 -- ---- facts and statements
 
@@ -156,7 +160,7 @@ pub record ScaledAt (r : Prescaled) (i : ℕ) : Type 0 where
   pub scaled : bitAt (r .scaled) i ≡ true
   pub passed : bitAt (r .passed) i ≡ false
 
--- [Account.17] of n counted pulses not stopped since the factor was written, p have passed;
+-- [Account.17] of n counted pulses not stopped since a write, RESET or INITIALIZE loaded the counter, p have passed;
 -- the prescaler stands at the counter
 pub record PassCount (n p counter factor : ℕ) : Type 0 where
   -- needed where the counter is loaded

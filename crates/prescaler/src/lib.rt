@@ -1,9 +1,10 @@
-// The prescalers of inputs 1–8 (document 01, "The tick", Pulses): of F + 1 counted pulses the last passes.
+// The prescalers of inputs 1–8 (document 01, "The tick", Pulses; document 02, N4): of F + 1 counted pulses the last passes.
 // The bank goes in by value and comes back. Every contract is an equality with a definition of specs/.
 ghost use mathlib.Core.Path.{_≡_};
 ghost use mathlib.Core.Bool.{true};
 ghost use Rattle.prescaler.specs.Prescaler.{freshOf, withFactorOf, factorOf, reloadedOf};
-ghost use Rattle.prescaler.specs.Prescaler.{pulseOf, gatheredOf, stepOf, hasCountersWithinOf, hasValidFactorsOf};
+ghost use Rattle.prescaler.specs.Prescaler.{pulseOf, gatheredOf, stepOf, allFitOf, hasCountersWithinOf};
+ghost use Rattle.prescaler.specs.Prescaler.{hasValidFactorsOf};
 use registers::register::Register;
 
 // Place i is input i + 1.
@@ -68,16 +69,18 @@ impl Prescalers {
         }
     }
 
-    // [Registers.2] the input is counted from 1; one without a prescaler changes nothing
-    pub fn with_factor(self, input: u32, factor: u32) -> Prescalers
-        ensures { λ r. ⌜ r ≡ withFactorOf input factor self ⌝ }
+    // [Registers.2] [Bytes.4a] the input is counted from 1; one without a prescaler changes nothing
+    pub fn with_factor(self, loads: bool, input: u32, factor: u32) -> Prescalers
+        ensures { λ r. ⌜ r ≡ withFactorOf loads input factor self ⌝ }
     {
         if 1 <= input {
             if input <= Prescalers::PRESCALED_INPUTS {
                 let place = (input - 1) as usize;
                 let mut next = self;
-                next.counters[place] = factor;
                 next.factors[place] = factor;
+                if loads {
+                    next.counters[place] = factor;
+                }
                 return next;
             }
         }
@@ -196,36 +199,34 @@ impl Prescalers {
         self.counted_down(pulses)
     }
 
-    // [Spoiled.1e] no counter above its factor
+    // [Bytes.9] every counter fits the width of its factor
     pub fn has_counters_within(self) -> bool
         ensures { λ r. ⌜ r ≡ hasCountersWithinOf self ⌝ }
     {
-        let c = self.counters;
-        let f = self.factors;
-        let in0 = c[0] <= f[0];
-        let in1 = c[1] <= f[1];
-        let in2 = c[2] <= f[2];
-        let in3 = c[3] <= f[3];
-        let in4 = c[4] <= f[4];
-        let in5 = c[5] <= f[5];
-        let in6 = c[6] <= f[6];
-        let in7 = c[7] <= f[7];
-        in0 & (in1 & (in2 & (in3 & (in4 & (in5 & (in6 & (in7 & true)))))))
+        let counters = self.counters;
+        all_fit(counters)
     }
 
     // [Spoiled.1a] every factor is one that its write takes
     pub fn has_valid_factors(self) -> bool
         ensures { λ r. ⌜ r ≡ hasValidFactorsOf self ⌝ }
     {
-        let f = self.factors;
-        let fits0 = f[0] < Register::LOW_FACTOR_LIMIT;
-        let fits1 = f[1] < Register::LOW_FACTOR_LIMIT;
-        let fits2 = f[2] < Register::LOW_FACTOR_LIMIT;
-        let fits3 = f[3] < Register::LOW_FACTOR_LIMIT;
-        let fits4 = f[4] < Register::HIGH_FACTOR_LIMIT;
-        let fits5 = f[5] < Register::HIGH_FACTOR_LIMIT;
-        let fits6 = f[6] < Register::HIGH_FACTOR_LIMIT;
-        let fits7 = f[7] < Register::HIGH_FACTOR_LIMIT;
-        fits0 & (fits1 & (fits2 & (fits3 & (fits4 & (fits5 & (fits6 & (fits7 & true)))))))
+        let factors = self.factors;
+        all_fit(factors)
     }
+}
+
+// [Widths.1] each of eight numbers fits the width of its input's factor
+fn all_fit(values: [u32; 8]) -> bool
+    ensures { λ r. ⌜ r ≡ allFitOf values ⌝ }
+{
+    let fits0 = values[0] < Register::LOW_FACTOR_LIMIT;
+    let fits1 = values[1] < Register::LOW_FACTOR_LIMIT;
+    let fits2 = values[2] < Register::LOW_FACTOR_LIMIT;
+    let fits3 = values[3] < Register::LOW_FACTOR_LIMIT;
+    let fits4 = values[4] < Register::HIGH_FACTOR_LIMIT;
+    let fits5 = values[5] < Register::HIGH_FACTOR_LIMIT;
+    let fits6 = values[6] < Register::HIGH_FACTOR_LIMIT;
+    let fits7 = values[7] < Register::HIGH_FACTOR_LIMIT;
+    fits0 & (fits1 & (fits2 & (fits3 & (fits4 & (fits5 & (fits6 & (fits7 & true)))))))
 }

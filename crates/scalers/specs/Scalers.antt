@@ -1,43 +1,39 @@
--- The two scalers: what a tick adds to each.
---     document 01    "Registers": scalers, assign
+-- The two scalers: what a tick adds to each, and the latch by which each is read.
+--     document 01    "Registers": scalers, assign; document 02, N4
 --     countsOf       scaler 1 counts this tick, by its assign code
 --     countedOf      both scalers after a tick
---     zeroedOf       a scaler written; storedOf: read
--- Own rules of 01 used here: level fails count where a wait acts on them, late ones too. Decisions: C1, C2. Left out: nothing.
+--     zeroedOf       a scaler written; latchedOf: its value latched; latchOf: the value last latched
+-- Own rules of 01 used here: level fails count where a wait acts on them, late ones too. Decisions: C1, C2, R7.
+-- Left out: nothing.
 -- Assumes nothing.
 use Prim.Native.Nat.{ℕ, _+_, _-_, _%_, _^_}
 use mathlib.Core.Bool.{Bool, not, _||_}
 use lib.Dec.{eqb, ltb, leb}
 use Rattle.bits.specs.Notation.{if_then_else_, _▷_}
 use Rattle.bits.specs.Bits.{bitAt, oneIfOf}
+use Rattle.scalers.specs.ScalersFields.{withScaler0, withScaler1, withLatch0, withLatch1}
 use Rattle.scalers.specs.declared.Scalers.{Scalers}
 use Rattle.scalers.specs.declared.Signals.{Signals}
 
--- ---- changes of one field
-
-abbrev pub withScaler0 : ℕ → Scalers → Scalers
-withScaler0 v s = record { scaler0 = v; scaler1 = s .scaler1; assign = s .assign }
-
-abbrev pub withScaler1 : ℕ → Scalers → Scalers
-withScaler1 v s = record { scaler0 = s .scaler0; scaler1 = v; assign = s .assign }
-
-abbrev pub withAssign : ℕ → Scalers → Scalers
-withAssign v s = record { scaler0 = s .scaler0; scaler1 = s .scaler1; assign = v }
-
 -- ---- the scalers
 
--- [Registers.4] both 0, code 0
+-- [Registers.4] both 0, code 0; [Bytes.5b] and both latches 0
 abbrev pub freshOf : Scalers
-freshOf = record { scaler0 = 0; scaler1 = 0; assign = 0 }
+freshOf = record { scaler0 = 0; scaler1 = 0; assign = 0; latch0 = 0; latch1 = 0 }
 
--- [Registers.3] any write to register 17 or 18; n is 0 or 1
+-- [Registers.3] [Bytes.4a] a write to register 17 or 18; n is 0 or 1
 abbrev pub zeroedOf : (n : ℕ) → Scalers → Scalers
 zeroedOf n s = if eqb n 0 then s ▷ withScaler0 0 else s ▷ withScaler1 0
 
-abbrev pub storedOf : (n : ℕ) → Scalers → ℕ
-storedOf n s = if eqb n 0 then s .scaler0 else s .scaler1
+-- [Bytes.5a] a scaler's value kept in its latch
+abbrev pub latchedOf : (n : ℕ) → Scalers → Scalers
+latchedOf n s = if eqb n 0 then s ▷ withLatch0 (s .scaler0) else s ▷ withLatch1 (s .scaler1)
 
--- [CSRWrite.2d] RESET zeroes both and keeps the assign code
+-- [Bytes.5b] the value last latched
+abbrev pub latchOf : (n : ℕ) → Scalers → ℕ
+latchOf n s = if eqb n 0 then s .latch0 else s .latch1
+
+-- [CSRWrite.2d] RESET zeroes both scalers and keeps the assign code; [Bytes.5b] and the latches
 abbrev pub resetOf : Scalers → Scalers
 resetOf s = s ▷ withScaler0 0 ▷ withScaler1 0
 

@@ -1,6 +1,7 @@
-// The two scalers (document 01, "Registers"). The definitions are in specs/Scalers.antt.
+// The two scalers and their latches (document 01, "Registers"; document 02, N4). The definitions are in specs/Scalers.antt.
 ghost use mathlib.Core.Path.{_≡_};
-ghost use Rattle.scalers.specs.Scalers.{freshOf, zeroedOf, storedOf, resetOf, isSome, countsOf, addOf, countedOf};
+ghost use Rattle.scalers.specs.Scalers.{freshOf, zeroedOf, latchedOf, latchOf, resetOf};
+ghost use Rattle.scalers.specs.Scalers.{isSome, countsOf, addOf, countedOf};
 
 pub struct Scalers {
     // registers 17 and 18
@@ -8,6 +9,9 @@ pub struct Scalers {
     pub scaler1: u32,
     // register 19: what scaler 1 counts
     pub assign: u32,
+    // the value that each had at the latest read with BYTE(3)
+    pub latch0: u32,
+    pub latch1: u32,
 }
 
 // What a tick brings the scalers.
@@ -74,7 +78,7 @@ impl Signals {
 }
 
 impl Scalers {
-    // [Registers.4] both 0, code 0
+    // [Registers.4] both 0, code 0; [Bytes.5b] and both latches 0
     pub fn fresh() -> Scalers
         ensures { λ r. ⌜ r ≡ freshOf ⌝ }
     {
@@ -82,10 +86,12 @@ impl Scalers {
             scaler0: 0,
             scaler1: 0,
             assign: 0,
+            latch0: 0,
+            latch1: 0,
         }
     }
 
-    // [Registers.3]
+    // [Registers.3] [Bytes.4a]
     pub fn zeroed(self, n: u32) -> Scalers
         ensures { λ r. ⌜ r ≡ zeroedOf n self ⌝ }
     {
@@ -98,23 +104,37 @@ impl Scalers {
         next
     }
 
-    pub fn stored(self, n: u32) -> u32
-        ensures { λ r. ⌜ r ≡ storedOf n self ⌝ }
+    // [Bytes.5a]
+    pub fn latched(self, n: u32) -> Scalers
+        ensures { λ r. ⌜ r ≡ latchedOf n self ⌝ }
     {
+        let mut next = self;
         if n == 0 {
-            return self.scaler0;
+            next.latch0 = self.scaler0;
+            return next;
         }
-        self.scaler1
+        next.latch1 = self.scaler1;
+        next
     }
 
-    // [CSRWrite.2d]
+    // [Bytes.5b]
+    pub fn latch(self, n: u32) -> u32
+        ensures { λ r. ⌜ r ≡ latchOf n self ⌝ }
+    {
+        if n == 0 {
+            return self.latch0;
+        }
+        self.latch1
+    }
+
+    // [CSRWrite.2d] [Bytes.5b]
     pub fn reset(self) -> Scalers
         ensures { λ r. ⌜ r ≡ resetOf self ⌝ }
     {
         Scalers {
             scaler0: 0,
             scaler1: 0,
-            assign: self.assign,
+            ..self
         }
     }
 
@@ -128,6 +148,8 @@ impl Scalers {
             scaler0: add(x.event, self.scaler0),
             scaler1: add(counts, self.scaler1),
             assign,
+            latch0: self.latch0,
+            latch1: self.latch1,
         }
     }
 }

@@ -56,6 +56,6 @@ module _ (s : Supervisor) (clean : isSpoiledOf s ≡ false) where
   pub unspoiled-is-well-formed : wellFormed ≡ true
   unspoiled-is-well-formed = and-left wellFormed sound unspoiled
 
-  -- [Spoiled.1a]–[Spoiled.1c] [Spoiled.1e] [Spoiled.1h]–[Spoiled.1k]
+  -- [Spoiled.1a]–[Spoiled.1c] [Spoiled.1h]–[Spoiled.1k] [Bytes.9]
   pub unspoiled-is-sound : sound ≡ true
   unspoiled-is-sound = and-right wellFormed sound unspoiled
