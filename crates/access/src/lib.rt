@@ -1,17 +1,18 @@
-// What a register write that is carried out does to the record, and what a register reads (document 01, "Registers";
-// document 02, N2). The definitions are in specs/Access.antt; STATE has a crate of its own.
+// What a register write that is carried out does to the record, and what a read leaves and gives (document 01, "Registers";
+// document 02, N2 and N4). The definitions are in specs/Access.antt; STATE has a crate of its own.
 ghost use mathlib.Core.Path.{_≡_};
 ghost use Rattle.branches.specs.ReadoutFields.{withRoc};
 ghost use Rattle.core.specs.CoreFields.{withScalers};
 ghost use Rattle.supervisor.specs.Supervisor.{withReadout, onCore};
-ghost use Rattle.access.specs.Access.{afterCsrOf, csrWrittenOf, settingWrittenOf};
-ghost use Rattle.access.specs.Access.{writtenOf, settingOf, storedOf};
+ghost use Rattle.access.specs.Access.{afterCsrOf, csrWrittenOf, settingWrittenOf, scalerWrittenOf};
+ghost use Rattle.access.specs.Access.{writtenOf, settingOf, baseOf, mergedOf, afterReadOf, shownOf};
 use registers::control::Control;
 use registers::csr::Csr;
 use registers::csr::CsrWrite;
 use registers::csr::Request;
 use registers::register::Register;
 use registers::register::Setting;
+use run::Run;
 use scalers::Scalers;
 use state::state;
 use supervisor::Supervisor;
@@ -47,9 +48,9 @@ fn roc_written(s: Supervisor, value: u32) -> Supervisor
     s.with_readout(readout)
 }
 
-// [Registers.2] a write to one of registers 1–16
-fn setting_written(s: Supervisor, setting: Setting, value: u32) -> Supervisor
-    ensures { λ r. ⌜ r ≡ settingWrittenOf setting value s ⌝ }
+// [Registers.2] a write to one of registers 1–16; [Bytes.4a] loads: it has BYTE(3)
+fn setting_written(s: Supervisor, setting: Setting, loads: bool, value: u32) -> Supervisor
+    ensures { λ r. ⌜ r ≡ settingWrittenOf setting loads value s ⌝ }
 {
     let mut core = s.core;
     match setting {
@@ -59,7 +60,7 @@ fn setting_written(s: Supervisor, setting: Setting, value: u32) -> Supervisor
             s.with_core(core)
         }
         Setting::Factor(input) => {
-            let prescalers = core.prescalers.with_factor(input, value);
+            let prescalers = core.prescalers.with_factor(loads, input, value);
             core.prescalers = prescalers;
             s.with_core(core)
         }
@@ -80,7 +81,7 @@ fn setting_written(s: Supervisor, setting: Setting, value: u32) -> Supervisor
     }
 }
 
-fn scalers_written(s: Supervisor, scalers: Scalers) -> Supervisor
+fn with_scalers(s: Supervisor, scalers: Scalers) -> Supervisor
     ensures { λ r. ⌜ r ≡ onCore (withScalers scalers) s ⌝ }
 {
     let mut core = s.core;
@@ -88,18 +89,28 @@ fn scalers_written(s: Supervisor, scalers: Scalers) -> Supervisor
     s.with_core(core)
 }
 
+// [Registers.3] [Bytes.4a] [Bytes.6]
+fn scaler_written(s: Supervisor, n: u32, loads: bool) -> Supervisor
+    ensures { λ r. ⌜ r ≡ scalerWrittenOf n loads s ⌝ }
+{
+    if loads {
+        return with_scalers(s, s.core.scalers.zeroed(n));
+    }
+    s
+}
+
 // [CSRWrite.3] a register write that is carried out; it is not given the memory
-pub fn written(s: Supervisor, register: Register, value: u32) -> Supervisor
-    ensures { λ r. ⌜ r ≡ writtenOf register value s ⌝ }
+pub fn written(s: Supervisor, register: Register, loads: bool, value: u32) -> Supervisor
+    ensures { λ r. ⌜ r ≡ writtenOf register loads value s ⌝ }
 {
     match register {
         Register::Csr => csr_written(s, value),
-        Register::Setting(setting) => setting_written(s, setting, value),
-        Register::Scaler(n) => scalers_written(s, s.core.scalers.zeroed(n)),
+        Register::Setting(setting) => setting_written(s, setting, loads, value),
+        Register::Scaler(n) => scaler_written(s, n, loads),
         Register::Assign => {
             let mut scalers = s.core.scalers;
             scalers.assign = value;
-            scalers_written(s, scalers)
+            with_scalers(s, scalers)
         }
         Register::State => s,
         Register::Absent => s,
@@ -119,15 +130,55 @@ fn setting_value(s: Supervisor, setting: Setting) -> u32
     }
 }
 
-// [Declines.3b] the stored value; [State.8a]
-pub fn stored(s: Supervisor, register: Register) -> u32
-    ensures { λ r. ⌜ r ≡ storedOf register s ⌝ }
+// [Bytes.3a] where a write takes the bytes that it lacks from; [Bytes.3b] the CSR's count as 0
+fn base(s: Supervisor, register: Register) -> u32
+    ensures { λ r. ⌜ r ≡ baseOf register s ⌝ }
+{
+    match register {
+        Register::Csr => 0,
+        Register::Setting(setting) => setting_value(s, setting),
+        Register::Scaler(_) => 0,
+        Register::Assign => s.core.scalers.assign,
+        Register::State => 0,
+        Register::Absent => 0,
+    }
+}
+
+// [Bytes.3a] the value that a run of a value makes of a register
+pub fn merged(s: Supervisor, register: Register, run: Run, value: u32) -> u32
+    ensures { λ r. ⌜ r ≡ mergedOf register run value s ⌝ }
+{
+    run.overlaid(base(s, register), value)
+}
+
+// [Bytes.5a] the record after a read; latches: it has BYTE(3)
+pub fn after_read(s: Supervisor, register: Register, latches: bool) -> Supervisor
+    ensures { λ r. ⌜ r ≡ afterReadOf register latches s ⌝ }
+{
+    match register {
+        Register::Csr => s,
+        Register::Setting(_) => s,
+        Register::Scaler(n) => {
+            if latches {
+                return with_scalers(s, s.core.scalers.latched(n));
+            }
+            s
+        }
+        Register::Assign => s,
+        Register::State => s,
+        Register::Absent => s,
+    }
+}
+
+// [Declines.3b] the stored value; [State.8a] [Bytes.5b] of a scaler the value last latched
+pub fn shown(s: Supervisor, register: Register) -> u32
+    ensures { λ r. ⌜ r ≡ shownOf register s ⌝ }
 {
     let core = s.core;
     match register {
         Register::Csr => core.csr.word,
         Register::Setting(setting) => setting_value(s, setting),
-        Register::Scaler(n) => core.scalers.stored(n),
+        Register::Scaler(n) => core.scalers.latch(n),
         Register::Assign => core.scalers.assign,
         Register::State => state(s),
         Register::Absent => 0,

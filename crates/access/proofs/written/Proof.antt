@@ -15,16 +15,11 @@ returns-2 c = rw (c .setting-written .ensures, c .before .before .register .give
 
 returns-3 : tie.Need-returns-3
 unfolding writtenOf
-returns-3 c =
-    rw (
-      c .scalers-written .ensures,
-      c .before .zeroed .ensures,
-      c .before .before .before .register2 .given .1,
-    )
+returns-3 c = rw (c .scaler-written .ensures, c .before .before .register2 .given .1)
 
 returns-4 : tie.Need-returns-4
 unfolding writtenOf
-returns-4 c = rw (c .scalers-written2 .ensures, c .before .before .enum-told2 .given .1)
+returns-4 c = rw (c .with-scalers .ensures, c .before .before .enum-told2 .given .1)
 
 returns-5 : tie.Need-returns-5
 unfolding writtenOf
@@ -43,7 +38,6 @@ written-spec =
     (λ c. search needs)
     (λ c κs. search needs)
     (λ c. search needs)
-    (λ c κs. search needs)
     (λ c κs. search needs)
     (λ c. search needs)
     (λ c κs. search needs)
