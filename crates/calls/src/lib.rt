@@ -1,13 +1,18 @@
-// The public calls (document 01, "When a call is declined"). Each takes the record by value, refuses bad input by itself,
-// and hands back the next record with its answer. No call has a `requires`; each contract is an equality with a
-// definition of crate `declines`, for every record and every memory; `write_memory` has one more, for the memory.
+// The public calls (document 01, "When a call is declined"; document 02, N4). Each takes the record by value, refuses bad
+// input by itself, and hands back the next record with its answer. No call has a `requires`; each contract is an equality
+// with a definition of crate `declines`, for every record and every memory; `write_memory` has one more, for the memory.
 ghost use mathlib.Core.Path.{_≡_};
-ghost use Rattle.declines.specs.Calls.{markedOf, refuse, refuseRead, refuseTick, writeRegisterOf, readRegisterOf};
+ghost use Rattle.declines.specs.Calls.{writeRunOf, readRunOf, writeRegisterOf, readRegisterOf, writeBytesOf, readBytesOf};
 ghost use Rattle.declines.specs.Calls.{writeMemoryOf, memoryAfterOf, readMemoryOf, tickOf};
-use access::stored;
+use access::after_read;
+use access::merged;
+use access::shown;
 use access::written;
-use branch::Slot;
-use branches::Side;
+use declines::BytesDecline;
+use declines::BytesReadDone;
+use declines::BytesReading;
+use declines::BytesVerdict;
+use declines::BytesWriteDone;
 use declines::Decline;
 use declines::ReadDone;
 use declines::Reading;
@@ -16,11 +21,18 @@ use declines::Verdict;
 use declines::WriteDone;
 use registers::csr::Csr;
 use registers::register::Register;
-use sequencer::states::Outcome;
-use supervisor::Answer;
+use run::Run;
 use supervisor::Supervisor;
-use trigger::latch::Masks;
 use trigger::lines::Inputs;
+
+mod refusals;
+
+use refusals::by_bytes;
+use refusals::marked;
+use refusals::read_by_bytes;
+use refusals::refused;
+use refusals::refused_read;
+use refusals::refused_tick;
 
 // [Memory.1]
 pub const MEMORY_PLACES: usize = 4096;
@@ -30,67 +42,6 @@ pub const TRIGGERS_LIMIT: u32 = 4095;
 
 pub const LINES_LIMIT: u32 = 127;
 
-// ---- refusals
-
-// [Declines.2c] [Declines.4d] the record with a status bit set
-fn marked(s: Supervisor, status: u32) -> Supervisor
-    ensures { λ r. ⌜ r ≡ markedOf status s ⌝ }
-{
-    let mut core = s.core;
-    let csr = core.csr;
-    let next = csr.marked(status);
-    core.csr = next;
-    s.with_core(core)
-}
-
-// [Declines.1a] [Declines.1b] the record as it is, and why
-fn refused(s: Supervisor, why: Decline) -> WriteDone
-    ensures { λ r. ⌜ r ≡ refuse why s ⌝ }
-{
-    WriteDone {
-        next: s,
-        answer: Verdict::Declined(why),
-    }
-}
-
-fn refused_read(s: Supervisor, why: Decline) -> ReadDone
-    ensures { λ r. ⌜ r ≡ refuseRead why s ⌝ }
-{
-    ReadDone {
-        next: s,
-        answer: Reading::Declined(why),
-    }
-}
-
-fn refused_tick(s: Supervisor, why: Decline) -> TickDone
-    ensures { λ r. ⌜ r ≡ refuseTick why s ⌝ }
-{
-    let none = Side {
-        finished: Slot::Nothing,
-        shown: Slot::Nothing,
-    };
-    let masks = Masks {
-        stopped: 0,
-        scaled: 0,
-        lost: 0,
-        rejected: 0,
-        accepted: 0,
-    };
-    let answer = Answer {
-        masks,
-        lines: 0,
-        outcome: Outcome::Nothing,
-        sides: [none, none, none, none],
-    };
-    let readout = s.readout;
-    TickDone {
-        // as it is: a plain copy would have every tick carry the bytes between the fields
-        next: s.with_readout(readout.rebuilt()),
-        answer,
-        verdict: Verdict::Declined(why),
-    }
-}
-
 fn wide(word: u16) -> u32
     ensures { λ r. ⌜ r ≡ word ⌝ }
 {
@@ -99,7 +50,36 @@ fn wide(word: u16) -> u32
 
 // ---- register calls
 
-// [Declines.2a] [Declines.2b] [Declines.2c] [Declines.2d]
+// [Declines.2c] [Declines.2d] the rest of a write: a register that may be written, and a run of its bytes
+fn write_run(s: Supervisor, register: Register, run: Run, value: u32) -> WriteDone
+    ensures { λ r. ⌜ r ≡ writeRunOf register run value s ⌝ }
+{
+    let facts = register.facts();
+    if s.is_active() & facts.protected {
+        return refused(marked(s, Csr::WRITE_ERROR), Decline::Active);
+    }
+    let word = merged(s, register, run, value);
+    if !register.is_valid_value(word) {
+        return refused(s, Decline::Value);
+    }
+    WriteDone {
+        next: written(s, register, run.has_byte_3(), word),
+        answer: Verdict::Done,
+    }
+}
+
+// [Declines.3b] [Bytes.7] the rest of a read: a register that may be read, and a run of its bytes
+fn read_run(s: Supervisor, register: Register, run: Run) -> ReadDone
+    ensures { λ r. ⌜ r ≡ readRunOf register run s ⌝ }
+{
+    let next = after_read(s, register, run.has_byte_3());
+    ReadDone {
+        next,
+        answer: Reading::Value(run.cut(shown(next, register))),
+    }
+}
+
+// [Declines.2a] [Declines.2b] [Declines.2c] [Declines.2d] all four bytes
 pub fn write_register(s: Supervisor, number: u32, value: u32) -> WriteDone
     ensures { λ r. ⌜ r ≡ writeRegisterOf number value s ⌝ }
 {
@@ -111,19 +91,10 @@ pub fn write_register(s: Supervisor, number: u32, value: u32) -> WriteDone
     if !facts.writable {
         return refused(s, Decline::Place);
     }
-    if s.is_active() & facts.protected {
-        return refused(marked(s, Csr::WRITE_ERROR), Decline::Active);
-    }
-    if !register.is_valid_value(value) {
-        return refused(s, Decline::Value);
-    }
-    WriteDone {
-        next: written(s, register, value),
-        answer: Verdict::Done,
-    }
+    write_run(s, register, Run::whole(), value)
 }
 
-// [Declines.3a] [Declines.3b]
+// [Declines.3a] [Declines.3b] all four bytes
 pub fn read_register(s: Supervisor, number: u32) -> ReadDone
     ensures { λ r. ⌜ r ≡ readRegisterOf number s ⌝ }
 {
@@ -135,10 +106,49 @@ pub fn read_register(s: Supervisor, number: u32) -> ReadDone
     if !facts.readable {
         return refused_read(s, Decline::Place);
     }
-    ReadDone {
-        next: s,
-        answer: Reading::Value(stored(s, register)),
+    read_run(s, register, Run::whole())
+}
+
+// [Bytes.2] [Bytes.11] a run of the bytes, each in its place in the value
+pub fn write_bytes(s: Supervisor, number: u32, run: Run, value: u32) -> BytesWriteDone
+    ensures { λ r. ⌜ r ≡ writeBytesOf number run value s ⌝ }
+{
+    if s.is_spoiled() {
+        return by_bytes(refused(s, Decline::Spoiled));
     }
+    let register = Register::numbered(number);
+    let facts = register.facts();
+    if !facts.writable {
+        return by_bytes(refused(s, Decline::Place));
+    }
+    if !run.is_run() {
+        return BytesWriteDone {
+            next: s,
+            answer: BytesVerdict::Declined(BytesDecline::BadRun),
+        };
+    }
+    by_bytes(write_run(s, register, run, value))
+}
+
+// [Bytes.2] [Bytes.7] [Bytes.11] a run of the bytes, each in its place in the value, and 0 elsewhere
+pub fn read_bytes(s: Supervisor, number: u32, run: Run) -> BytesReadDone
+    ensures { λ r. ⌜ r ≡ readBytesOf number run s ⌝ }
+{
+    if s.is_spoiled() {
+        return read_by_bytes(refused_read(s, Decline::Spoiled));
+    }
+    let register = Register::numbered(number);
+    let facts = register.facts();
+    if !facts.readable {
+        return read_by_bytes(refused_read(s, Decline::Place));
+    }
+    if !run.is_run() {
+        return BytesReadDone {
+            next: s,
+            answer: BytesReading::Declined(BytesDecline::BadRun),
+        };
+    }
+    read_by_bytes(read_run(s, register, run))
 }
 
 // ---- memory calls

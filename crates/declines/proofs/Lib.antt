@@ -2,3 +2,6 @@
 pub mod CallEnds
 pub mod CallsLaws
 pub mod StateCallsLaws
+pub mod BytesCallsLaws
+pub mod LatchLaws
+pub mod ReadBackLaws

@@ -5,8 +5,11 @@
 -- Assumes nothing.
 use Prim.Native.Nat.{ℕ}
 use mathlib.Core.Path.{_≡_, refl, ap, _∙_}
-use mathlib.Core.Bool.{false}
+use mathlib.Core.Bool.{Bool, true, false}
 use mathlib.Core.List.{List}
+use Rattle.bits.proofs.TestLaws.{by-cond}
+use Rattle.run.specs.Run.{isRunOf, hasByte3, overlaidOf}
+use Rattle.run.specs.declared.Run.{Run}
 use Rattle.registers.specs.Csr as csr
 use Rattle.registers.specs.Registers.{numberedOf}
 use Rattle.registers.specs.declared.csr.CsrWrite.{CsrWrite}
@@ -23,28 +26,29 @@ use Rattle.supervisor.specs.Supervisor.{freshOf, initializedOf, resetOf, ticked
 use Rattle.supervisor.specs.Supervisor.{isSpoiledOf}
 use Rattle.supervisor.specs.declared.Supervisor.{Supervisor}
 use Rattle.state.specs.State.{stateOf, latestTickIn}
-use Rattle.access.specs.Access.{afterCsrOf, csrWrittenOf, settingWrittenOf, writtenOf, storedOf}
+use Rattle.access.specs.Access.{afterCsrOf, csrWrittenOf, settingWrittenOf, writtenOf, baseOf, mergedOf}
+use Rattle.access.specs.Access.{requestedBy, afterReadOf, shownOf}
 use Rattle.declines.specs.Answers.{Reply, declined, value}
-use Rattle.declines.specs.Calls.{markedOf, writeRegisterOf, readRegisterOf}
-use Rattle.declines.specs.Runs.{Ask, writeRegister, readRegister, askOf, Entry}
+use Rattle.declines.specs.Calls.{markedOf, readRunOf, writeBytesOf, readBytesOf}
+use Rattle.declines.specs.Runs.{Ask, writeRegister, plainRead, askOf, Entry}
 use Rattle.declines.specs.Follow.{afterCall, afterLog}
 use Rattle.declines.specs.LatestTick.{afterRequest, afterWrite, rules, KeepsTheLatestTick}
-use Rattle.declines.proofs.CallEnds.{End, refused, refusedActive, wrote, gave, stored, ran}
+use Rattle.declines.proofs.CallEnds.{End, refused, refusedActive, wrote, read, gave, stored, ran}
 use Rattle.declines.proofs.CallEnds.{Chain, stop, then, run-is-chain}
 
 -- ---- the calls
 
 -- [State.8a]
 pub state-is-read : (memory : List ℕ) (s : Supervisor) → isSpoiledOf s ≡ false
-    → askOf (readRegister 20) memory s .reply ≡ value (stateOf s)
-unfolding readRegisterOf numberedOf storedOf
+    → askOf (plainRead 20) memory s .reply ≡ value (stateOf s)
+unfolding readBytesOf readRunOf isRunOf numberedOf afterReadOf shownOf overlaidOf
 state-is-read memory s clean = rw clean
 
 -- [State.8b] active or not
-pub state-is-not-written : (v : ℕ) (memory : List ℕ) (s : Supervisor) → isSpoiledOf s ≡ false
-    → askOf (writeRegister 20 v) memory s ≡ record { reply = declined 3; next = s }
-unfolding writeRegisterOf numberedOf
-state-is-not-written v memory s clean = rw clean
+pub state-is-not-written : (run : Run) (v : ℕ) (memory : List ℕ) (s : Supervisor) → isSpoiledOf s ≡ false
+    → askOf (writeRegister 20 run v) memory s ≡ record { reply = declined 3; next = s }
+unfolding writeBytesOf numberedOf
+state-is-not-written run v memory s clean = rw clean
 
 -- ---- what is kept
 
@@ -56,22 +60,34 @@ module _ (s : Supervisor) where
   request-keeps Reset w = refl
   request-keeps Nothing w = refl
 
-  setting-keeps : (r : Setting) (v : ℕ) → latestTickIn (settingWrittenOf r v s) ≡ latestTickIn s
+  setting-keeps : (r : Setting) (loads : Bool) (v : ℕ) → latestTickIn (settingWrittenOf r loads v s) ≡ latestTickIn s
   unfolding settingWrittenOf
-  setting-keeps Control v = refl
-  setting-keeps (Factor input) v = refl
-  setting-keeps RocEnable v = refl
-  setting-keeps Interval v = refl
-  setting-keeps (Timer n) v = refl
+  setting-keeps Control loads v = refl
+  setting-keeps (Factor input) loads v = refl
+  setting-keeps RocEnable loads v = refl
+  setting-keeps Interval loads v = refl
+  setting-keeps (Timer n) loads v = refl
 
-  write-keeps : (r : Register) (v : ℕ) → latestTickIn (writtenOf r v s) ≡ afterWrite r v (latestTickIn s)
-  unfolding writtenOf csrWrittenOf csr.writtenOf
-  write-keeps Csr v = request-keeps (csr.requestedOf v) _
-  write-keeps (register.Setting r) v = setting-keeps r v
-  write-keeps (Scaler n) v = refl
-  write-keeps Assign v = refl
-  write-keeps State v = refl
-  write-keeps Absent v = refl
+  write-keeps : (r : Register) (run : Run) (v : ℕ)
+      → latestTickIn (writtenOf r (hasByte3 run) (mergedOf r run v s) s) ≡ afterWrite r run v (latestTickIn s)
+  unfolding writtenOf baseOf csrWrittenOf csr.writtenOf
+  write-keeps Csr run v = request-keeps (requestedBy run v) _
+  write-keeps (register.Setting r) run v = setting-keeps r (hasByte3 run) _
+  write-keeps (Scaler n) run v = by-cond (λ (next : Supervisor). latestTickIn next ≡ latestTickIn s) (hasByte3 run) (λ e. refl) (λ e. refl)
+  write-keeps Assign run v = refl
+  write-keeps State run v = refl
+  write-keeps Absent run v = refl
+
+  -- [Bytes.5a] a read may change a latch
+  read-keeps : (r : Register) (latches : Bool) → latestTickIn (afterReadOf r latches s) ≡ latestTickIn s
+  unfolding afterReadOf
+  read-keeps Csr latches = refl
+  read-keeps (register.Setting r) latches = refl
+  read-keeps (Scaler n) true = refl
+  read-keeps (Scaler n) false = refl
+  read-keeps Assign latches = refl
+  read-keeps State latches = refl
+  read-keeps Absent latches = refl
 
   -- [State.3]
   pub end-keeps-latest : {memory : List ℕ} {a : Ask} {reply : Reply} {next : Supervisor} → End memory s a reply next
@@ -79,8 +95,9 @@ module _ (s : Supervisor) where
   unfolding markedOf tickedOf joinedOf coreStepOf readoutStepOf core.stepOf core.settledOf readout.stepOf
   end-keeps-latest (refused a n h) = refl
   end-keeps-latest (refusedActive a) = refl
-  end-keeps-latest (wrote number v valid) = write-keeps (numberedOf number) v
-  end-keeps-latest (gave a v) = refl
+  end-keeps-latest (wrote number run v valid) = write-keeps (numberedOf number) run v
+  end-keeps-latest (read number run v) = read-keeps (numberedOf number) (hasByte3 run)
+  end-keeps-latest (gave place v) = refl
   end-keeps-latest (stored place word) = refl
   end-keeps-latest (ran x clean) = refl
 

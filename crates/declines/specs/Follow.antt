@@ -1,6 +1,6 @@
 -- What a bystander follows through a log of asks and replies, whatever it is that he keeps: a register write that was
 -- carried out and a tick that ran change it, by rules of his own; every other call leaves it.
---     document 01    "The account of demand 3"
+--     document 01    "The account of demand 3"; document 02, N4
 --     Rules          how the two change what he keeps
 --     afterCall      what he keeps after a call
 --     afterLog       .. and after a whole log; by its type it sees neither record nor memory
@@ -8,6 +8,7 @@
 -- Assumes nothing.
 use Prim.Native.Nat.{ℕ}
 use mathlib.Core.List.{List, [], _∷_}
+use Rattle.run.specs.declared.Run.{Run}
 use Rattle.registers.specs.Registers.{numberedOf}
 use Rattle.registers.specs.declared.register.Register.{Register}
 use Rattle.trigger.specs.declared.lines.Inputs.{Inputs}
@@ -16,20 +17,20 @@ use Rattle.declines.specs.Answers.{Reply, declined, done, value, ticked}
 use Rattle.declines.specs.Runs.{Ask, writeRegister, readRegister, writeMemory, readMemory, tick, Entry}
 
 pub record Rules (A : Type 0) : Type 0 where
-  pub wrote : Register → (v : ℕ) → A → A
+  pub wrote : Register → Run → (v : ℕ) → A → A
   pub ran : Inputs → Answer → A → A
 
 -- [Account.5] of the calls that end in "done" a register write alone counts
 abbrev pub afterDone : {A : Type 0} → Rules A → Ask → A → A
-afterDone rules (writeRegister number v) a = rules .wrote (numberedOf number) v a
-afterDone rules (readRegister number) a = a
+afterDone rules (writeRegister number run v) a = rules .wrote (numberedOf number) run v a
+afterDone rules (readRegister number run) a = a
 afterDone rules (writeMemory place word) a = a
 afterDone rules (readMemory place) a = a
 afterDone rules (tick x) a = a
 
 abbrev pub afterTicked : {A : Type 0} → Rules A → Ask → Answer → A → A
-afterTicked rules (writeRegister number v) y a = a
-afterTicked rules (readRegister number) y a = a
+afterTicked rules (writeRegister number run v) y a = a
+afterTicked rules (readRegister number run) y a = a
 afterTicked rules (writeMemory place word) y a = a
 afterTicked rules (readMemory place) y a = a
 afterTicked rules (tick x) y a = rules .ran x y a

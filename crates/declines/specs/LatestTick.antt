@@ -7,7 +7,7 @@
 use Prim.Native.Nat.{ℕ}
 use mathlib.Core.Path.{_≡_}
 use mathlib.Core.List.{List}
-use Rattle.registers.specs.Csr.{requestedOf}
+use Rattle.run.specs.declared.Run.{Run}
 use Rattle.registers.specs.declared.csr.Request.{Request}
 use Rattle.registers.specs.declared.csr.Request.the-variants.{Nothing, Reset, Initialize}
 use Rattle.registers.specs.declared.register.Register.{Register}
@@ -17,6 +17,7 @@ use Rattle.trigger.specs.declared.lines.Inputs.{Inputs}
 use Rattle.supervisor.specs.Supervisor.{freshOf}
 use Rattle.supervisor.specs.declared.Answer.{Answer}
 use Rattle.state.specs.State.{LatestTick, latestTickIn, hasLatched}
+use Rattle.access.specs.Access.{requestedBy}
 use Rattle.declines.specs.Runs.{Call, logOf, recordAfter}
 use Rattle.declines.specs.Follow.{Rules, afterLog}
 
@@ -30,13 +31,14 @@ afterRequest Initialize t = noTick
 afterRequest Reset t = t
 afterRequest Nothing t = t
 
-abbrev pub afterWrite : Register → (v : ℕ) → LatestTick → LatestTick
-afterWrite Csr v t = afterRequest (requestedOf v) t
-afterWrite (Setting r) v t = t
-afterWrite (Scaler n) v t = t
-afterWrite Assign v t = t
-afterWrite State v t = t
-afterWrite Absent v t = t
+-- [Bytes.3b] what a CSR write lacks counts as 0
+abbrev pub afterWrite : Register → Run → (v : ℕ) → LatestTick → LatestTick
+afterWrite Csr run v t = afterRequest (requestedBy run v) t
+afterWrite (Setting r) run v t = t
+afterWrite (Scaler n) run v t = t
+afterWrite Assign run v t = t
+afterWrite State run v t = t
+afterWrite Absent run v t = t
 
 -- [State.3] its lines, its acknowledges, and whether its answer has a pattern rejected or accepted
 abbrev pub afterTick : Inputs → Answer → LatestTick → LatestTick

@@ -1,8 +1,8 @@
-// What the public calls answer: the types of their answers, and document 01's number of each decline. What each call
+// What the public calls answer: the types of their answers, and the documents' number of each decline. What each call
 // answers, and in what order it declines, is defined in specs/; crate `calls` has the calls themselves.
 ghost use mathlib.Core.Path.{_≡_};
 ghost use Prim.Native.Nat.{_≤_};
-ghost use Rattle.declines.specs.Answers.{declineNumber};
+ghost use Rattle.declines.specs.Answers.{declineNumber, bytesDeclineNumber, bytesVerdictOf, bytesReadingOf};
 use supervisor::Answer;
 use supervisor::Supervisor;
 
@@ -43,6 +43,63 @@ pub enum Reading {
     Declined(Decline),
 }
 
+// Why a register call by a run of bytes is declined: as the plain call is, or the run is none of the ten.
+pub enum BytesDecline {
+    Plain(Decline),
+    BadRun,
+}
+
+impl BytesDecline {
+    // [Bytes.11]
+    pub const BAD_RUN: u8 = 7;
+
+    // [Declines.1a] [Bytes.11] the documents' number
+    pub fn number(self) -> u8
+        ensures { λ r. ⌜ r ≡ bytesDeclineNumber self ⌝ }
+    {
+        match self {
+            BytesDecline::Plain(why) => why.number(),
+            BytesDecline::BadRun => BytesDecline::BAD_RUN,
+        }
+    }
+}
+
+// The answer to a register write by a run of bytes.
+pub enum BytesVerdict {
+    Done,
+    Declined(BytesDecline),
+}
+
+// The answer to a register read by a run of bytes.
+pub enum BytesReading {
+    Value(u32),
+    Declined(BytesDecline),
+}
+
+impl Verdict {
+    // a plain write's answer, as the answer to a write by a run
+    pub fn by_bytes(self) -> BytesVerdict
+        ensures { λ r. ⌜ r ≡ bytesVerdictOf self ⌝ }
+    {
+        match self {
+            Verdict::Done => BytesVerdict::Done,
+            Verdict::Declined(why) => BytesVerdict::Declined(BytesDecline::Plain(why)),
+        }
+    }
+}
+
+impl Reading {
+    // a plain read's answer, as the answer to a read by a run
+    pub fn by_bytes(self) -> BytesReading
+        ensures { λ r. ⌜ r ≡ bytesReadingOf self ⌝ }
+    {
+        match self {
+            Reading::Value(value) => BytesReading::Value(value),
+            Reading::Declined(why) => BytesReading::Declined(BytesDecline::Plain(why)),
+        }
+    }
+}
+
 pub struct WriteDone {
     pub next: Supervisor,
     pub answer: Verdict,
@@ -51,6 +108,16 @@ pub struct WriteDone {
 pub struct ReadDone {
     pub next: Supervisor,
     pub answer: Reading,
+}
+
+pub struct BytesWriteDone {
+    pub next: Supervisor,
+    pub answer: BytesVerdict,
+}
+
+pub struct BytesReadDone {
+    pub next: Supervisor,
+    pub answer: BytesReading,
 }
 
 pub struct TickDone {

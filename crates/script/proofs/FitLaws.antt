@@ -21,6 +21,7 @@ use Rattle.supervisor.specs.declared.Answer.{Answer}
 use Rattle.trigger.specs.Lines.{inputsOf}
 use Rattle.declines.specs.Answers.{verdictReply, readingReply, tickReply}
 use Rattle.declines.specs.Calls.{writeRegisterOf, readRegisterOf, writeMemoryOf, readMemoryOf, tickOf}
+use Rattle.declines.proofs.BytesCallsLaws.{plain-write-reply, plain-read-reply}
 use Rattle.declines.specs.declared.Verdict.{Verdict}
 use Rattle.declines.specs.declared.Verdict.the-variants.{Done, Declined}
 use Rattle.declines.specs.declared.Reading.{Reading}
@@ -86,8 +87,12 @@ roomOf (Tick triggers lines acks) = 53
 roomOf Other = 5
 
 pub answer-room : (c : Command) (z : Session) → length (lineAnswer c z) ≤ roomOf c
-answer-room (WriteRegister number v) z = verdict-length (writeRegisterOf number v (z .supervisor) .answer)
-answer-room (ReadRegister number) z = reading-length 8 (readRegisterOf number (z .supervisor) .answer) (omega arith)
+answer-room (WriteRegister number v) z =
+    rw (plain-write-reply number v (z .supervisor))
+    (verdict-length (writeRegisterOf number v (z .supervisor) .answer))
+answer-room (ReadRegister number) z =
+    rw (plain-read-reply number (z .supervisor))
+    (reading-length 8 (readRegisterOf number (z .supervisor) .answer) (omega arith))
 answer-room (WriteMemory place w) z = verdict-length (writeMemoryOf (z .memory) place (z .supervisor) .answer)
 answer-room (ReadMemory place) z = reading-length 4 (readMemoryOf (z .memory) place (z .supervisor) .answer) (omega arith)
 answer-room (Tick triggers lines acks) z =

@@ -22,6 +22,7 @@ use Rattle.supervisor.specs.declared.Answer.{Answer}
 use Rattle.trigger.specs.Lines.{inputsOf}
 use Rattle.declines.specs.Answers.{declineNumber, verdictReply, readingReply, tickReply}
 use Rattle.declines.specs.Calls.{writeRegisterOf, readRegisterOf, writeMemoryOf, readMemoryOf, tickOf}
+use Rattle.declines.proofs.BytesCallsLaws.{plain-write-reply, plain-read-reply}
 use Rattle.declines.specs.declared.Decline.{Decline}
 use Rattle.declines.specs.declared.Decline.the-variants.{Spoiled, Length, Place, Active, Value}
 use Rattle.declines.specs.declared.Verdict.{Verdict}
@@ -142,8 +143,12 @@ tick-reply-line Done a = tick-line a
 tick-reply-line (Declined d) a = no-line d
 
 pub answer-is-line : (c : Command) (z : Session) → OneLine (lineAnswer c z)
-answer-is-line (WriteRegister number v) z = verdict-line (writeRegisterOf number v (z .supervisor) .answer)
-answer-is-line (ReadRegister number) z = reading-line 8 (readRegisterOf number (z .supervisor) .answer)
+answer-is-line (WriteRegister number v) z =
+    rw (plain-write-reply number v (z .supervisor))
+    (verdict-line (writeRegisterOf number v (z .supervisor) .answer))
+answer-is-line (ReadRegister number) z =
+    rw (plain-read-reply number (z .supervisor))
+    (reading-line 8 (readRegisterOf number (z .supervisor) .answer))
 answer-is-line (WriteMemory place w) z = verdict-line (writeMemoryOf (z .memory) place (z .supervisor) .answer)
 answer-is-line (ReadMemory place) z = reading-line 4 (readMemoryOf (z .memory) place (z .supervisor) .answer)
 answer-is-line (Tick triggers lines acks) z =

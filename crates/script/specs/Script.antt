@@ -15,7 +15,7 @@ use lib.ListN.{length}
 use Rattle.bits.specs.Notation.{if_then_else_}
 use Rattle.bits.specs.Bytes.{isSameOf}
 use Rattle.trigger.specs.Lines.{inputsOf}
-use Rattle.declines.specs.Runs.{writeRegister, readRegister, writeMemory, readMemory, tick}
+use Rattle.declines.specs.Runs.{plainWrite, plainRead, writeMemory, readMemory, tick}
 use Rattle.declines.specs.Runs.{Session, freshSession, replyTo, after}
 use Rattle.reader.specs.Reader.{linesOf, commandOf}
 use Rattle.printer.specs.Printer.{replyText, noText}
@@ -45,16 +45,16 @@ header = 115 ∷ 117 ∷ 112 ∷ 101 ∷ 114 ∷ 118 ∷ 105 ∷ 115 ∷ 111 ∷
 
 -- [Console.5] a register is read in 8 digits, a memory word in 4
 abbrev pub lineAnswer : Command → Session → List ℕ
-lineAnswer (WriteRegister number v) z = replyText 0 (replyTo (writeRegister number v) z)
-lineAnswer (ReadRegister number) z = replyText 8 (replyTo (readRegister number) z)
+lineAnswer (WriteRegister number v) z = replyText 0 (replyTo (plainWrite number v) z)
+lineAnswer (ReadRegister number) z = replyText 8 (replyTo (plainRead number) z)
 lineAnswer (WriteMemory place w) z = replyText 0 (replyTo (writeMemory place w) z)
 lineAnswer (ReadMemory place) z = replyText 4 (replyTo (readMemory place) z)
 lineAnswer (Tick triggers lines acks) z = replyText 0 (replyTo (tick (inputsOf triggers lines acks)) z)
 lineAnswer Other z = noText malformed
 
 abbrev pub sessionAfter : Command → Session → Session
-sessionAfter (WriteRegister number v) z = after (writeRegister number v) z
-sessionAfter (ReadRegister number) z = after (readRegister number) z
+sessionAfter (WriteRegister number v) z = after (plainWrite number v) z
+sessionAfter (ReadRegister number) z = after (plainRead number) z
 sessionAfter (WriteMemory place w) z = after (writeMemory place w) z
 sessionAfter (ReadMemory place) z = after (readMemory place) z
 sessionAfter (Tick triggers lines acks) z = after (tick (inputsOf triggers lines acks)) z

@@ -25,12 +25,13 @@ returns-3 : tie.Need-returns-3
 unfolding readRegisterOf
 returns-3 c =
     rw (
-      c .stored .ensures,
-      ← c .before .before .before .before .numbered .ensures,
-      ← c .before .before .before .facts .ensures,
-      c .before .if2 .left,
-      ← c .before .before .before .before .before .before .is-spoiled .ensures,
-      c .before .before .before .before .before .if1 .left,
+      c .read-run .ensures,
+      c .before .whole .ensures,
+      ← c .before .before .before .before .before .numbered .ensures,
+      ← c .before .before .before .before .facts .ensures,
+      c .before .before .if2 .left,
+      ← c .before .before .before .before .before .before .before .is-spoiled .ensures,
+      c .before .before .before .before .before .before .if1 .left,
     )
 
 pub read-register-spec : {M : Type 1} → statement M
@@ -44,5 +45,6 @@ read-register-spec =
     (λ c κs. search needs)
     (λ c κs. search needs)
     returns-2
+    (λ c κs. search needs)
     (λ c κs. search needs)
     returns-3)

@@ -25,47 +25,13 @@ returns-3 : tie.Need-returns-3
 unfolding writeRegisterOf
 returns-3 c =
     rw (
-      c .refused3 .ensures,
-      ← c .before .before .before .before .before .before .before .before .numbered .ensures,
-      ← c .before .before .before .before .before .before .before .facts .ensures,
-      c .before .marked .ensures,
-      ← c .before .before .before .before .is-active .ensures,
-      c .before .before .if3 .taken,
-      c .before .before .before .before .before .if2 .left,
-      ← c .before .before .before .before .before .before .before .before .before .before .is-spoiled .ensures,
-      c .before .before .before .before .before .before .before .before .before .if1 .left,
-    )
-
-returns-4 : tie.Need-returns-4
-unfolding writeRegisterOf
-returns-4 c =
-    rw (
-      c .refused4 .ensures,
-      ← c .before .before .before .before .before .before .before .before .before .numbered .ensures,
-      ← c .before .before .before .before .before .before .before .before .facts .ensures,
-      ← c .before .before .before .before .before .is-active .ensures,
-      ← c .before .before .is-valid-value .ensures,
-      c .before .if4 .taken,
-      c .before .before .before .if3 .left,
-      c .before .before .before .before .before .before .if2 .left,
-      ← c .before .before .before .before .before .before .before .before .before .before .before .is-spoiled .ensures,
-      c .before .before .before .before .before .before .before .before .before .before .if1 .left,
-    )
-
-returns-5 : tie.Need-returns-5
-unfolding writeRegisterOf
-returns-5 c =
-    rw (
-      c .written .ensures,
-      ← c .before .before .before .before .before .before .before .before .before .numbered .ensures,
-      ← c .before .before .before .before .before .before .before .before .facts .ensures,
-      ← c .before .before .before .before .before .is-active .ensures,
-      ← c .before .before .is-valid-value .ensures,
-      c .before .if4 .left,
-      c .before .before .before .if3 .left,
-      c .before .before .before .before .before .before .if2 .left,
-      ← c .before .before .before .before .before .before .before .before .before .before .before .is-spoiled .ensures,
-      c .before .before .before .before .before .before .before .before .before .before .if1 .left,
+      c .write-run .ensures,
+      c .before .whole .ensures,
+      ← c .before .before .before .before .before .numbered .ensures,
+      ← c .before .before .before .before .facts .ensures,
+      c .before .before .if2 .left,
+      ← c .before .before .before .before .before .before .before .is-spoiled .ensures,
+      c .before .before .before .before .before .before .if1 .left,
     )
 
 pub write-register-spec : {M : Type 1} → statement M
@@ -81,10 +47,4 @@ write-register-spec =
     returns-2
     (λ c κs. search needs)
     (λ c κs. search needs)
-    (λ c κs. search needs)
-    returns-3
-    (λ c κs. search needs)
-    (λ c κs. search needs)
-    returns-4
-    (λ c κs. search needs)
-    returns-5)
+    returns-3)

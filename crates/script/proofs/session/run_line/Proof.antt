@@ -1,23 +1,43 @@
 -- `script::session::run_line` meets its contract: in each case of the command the call's contract gives the next record
 -- and memory, and the printing function's gives the page. Written by tools/prove.py; the answers to `returns` were
 -- written by hand. Assumes nothing.
+use Prim.Native.Nat.{ℕ}
+use mathlib.Core.Path.{_≡_, sym, ap}
+use mathlib.Core.List.{List}
 use borrow.Author.Needs.{needs}
+use Rattle.supervisor.specs.declared.Supervisor.{Supervisor}
+use Rattle.declines.specs.Answers.{Reply}
+use Rattle.declines.specs.Runs.{session}
+use Rattle.declines.proofs.BytesCallsLaws.{plain-write-next, plain-write-reply, plain-read-next, plain-read-reply}
+use Rattle.text.specs.Page.{Page, write}
+use Rattle.printer.specs.Printer.{replyText}
 use Rattle.script.proofs.session.run_line.Statement.{statement}
 use Rattle.script.proofs.session.run_line.Tie as tie
+
+-- a plain call is that of the whole run
+with-next : {a b : Supervisor} (memory : List ℕ) → a ≡ b → session a memory ≡ session b memory
+with-next memory e = ap (λ (s : Supervisor). session s memory) e
+
+with-reply : {a b : Reply} (digits : ℕ) (p : Page) → a ≡ b → write (replyText digits a) p ≡ write (replyText digits b) p
+with-reply digits p e = ap (λ (y : Reply). write (replyText digits y) p) e
 
 returns : tie.Need-returns
 returns c =
     let printed = c .before .before .wrote .ensures in
     let done = c .before .before .before .write-register .ensures in
-    let asked = c .before .before .before .before .before .before .command .given .1 in
-    (rw (printed .0, done, asked), rw (printed .1, done, asked))
+    let asked = c .before .before .before .before .before .before .command .given .1 in (
+      rw (printed .0, done, asked) (with-next _ (sym (plain-write-next _ _ _))),
+      rw (printed .1, done, asked) (with-reply 0 _ (sym (plain-write-reply _ _ _))),
+    )
 
 returns-2 : tie.Need-returns-2
 returns-2 c =
     let printed = c .before .before .gave .ensures in
     let done = c .before .before .before .read-register .ensures in
-    let asked = c .before .before .before .before .before .before .command2 .given .1 in
-    (rw (printed .0, done, asked), rw (printed .1, done, asked))
+    let asked = c .before .before .before .before .before .before .command2 .given .1 in (
+      rw (printed .0, done, asked) (with-next _ (sym (plain-read-next _ _))),
+      rw (printed .1, done, asked) (with-reply 8 _ (sym (plain-read-reply _ _))),
+    )
 
 returns-3 : tie.Need-returns-3
 returns-3 c =

@@ -1,8 +1,8 @@
--- `calls::refused_tick` meets its contract: the readout built anew is the readout, put back where it was.
+-- `calls::refusals::refused_tick` meets its contract: the readout built anew is the readout, put back where it was.
 -- First written by tools/prove.py. Assumes nothing.
 use borrow.Author.Needs.{needs}
-use Rattle.calls.proofs.refused_tick.Statement.{statement}
-use Rattle.calls.proofs.refused_tick.Tie as tie
+use Rattle.calls.proofs.refusals.refused_tick.Statement.{statement}
+use Rattle.calls.proofs.refusals.refused_tick.Tie as tie
 
 returns : tie.Need-returns
 returns c = rw (c .with-readout .ensures, c .before .rebuilt .ensures)

@@ -1,9 +1,9 @@
--- `calls::marked` meets its contract: the CSR marked, put back into the core and the record.
+-- `calls::refusals::marked` meets its contract: the CSR marked, put back into the core and the record.
 -- First written by tools/prove.py. Assumes nothing.
 use Rattle.declines.specs.Calls.{markedOf}
 use borrow.Author.Needs.{needs}
-use Rattle.calls.proofs.marked.Statement.{statement}
-use Rattle.calls.proofs.marked.Tie as tie
+use Rattle.calls.proofs.refusals.marked.Statement.{statement}
+use Rattle.calls.proofs.refusals.marked.Tie as tie
 
 returns : tie.Need-returns
 unfolding markedOf
