@@ -10,6 +10,7 @@
 -- Assumes nothing.
 use Prim.Native.Nat.{ℕ, _+_, _<_, _≤_}
 use mathlib.Core.Path.{_≡_}
+use mathlib.Core.Bool.{true}
 use mathlib.Core.List.{List, _++_}
 use lib.ListN.{length}
 use Rattle.bits.specs.Bits.{oneIfOf}
@@ -26,16 +27,15 @@ use Rattle.sequencer.specs.declared.states.State.{State}
 use Rattle.core.specs.declared.Core.{Core}
 use Rattle.account.specs.AccountFields.{Settings, Passes, Sums, Events, Account}
 
--- a change request that loads a counter in another way weakens this record and `prescales` of the statement
 pub record SettingsFollow (enables : ℕ) (b : Prescalers) (s : Settings) (q : Passes) : Type 0 where
   -- needed by every tick: the account's pulse rule is the machine's
   pub control : s .control ≡ enables
   -- a list stands for the array of eight: needed by every pulse and by a factor write
   pub eight : EightPlaces b
-  -- needed by RESET, which keeps them; inputs 9–12 read 0 on both sides
+  -- needed by RESET, which keeps them, and by a merge; inputs 9–12 read 0 on both sides
   pub factors : (i : ℕ) → s .factor i ≡ factorAt b i
-  -- needed by every pulse: its division is p
-  pub count : (i : ℕ) → i < inputs → PassCount (q .n i) (q .p i) (counterAt b i) (factorAt b i)
+  -- needed by every pulse: its division is p; [Bytes.10a] where that is owed
+  pub count : (i : ℕ) → i < inputs → s .owed i ≡ true → PassCount (q .n i) (q .p i) (counterAt b i) (factorAt b i)
 
 -- each counted pulse is in exactly one mask
 abbrev pub AddsUp : Sums → (i : ℕ) → Type 0

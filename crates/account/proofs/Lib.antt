@@ -3,3 +3,5 @@ pub mod Invariant
 pub mod WriteLaw
 pub mod TickLaw
 pub mod Theorem
+pub mod OwedLaw
+pub mod OwedExamples

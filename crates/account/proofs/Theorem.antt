@@ -8,6 +8,8 @@
 use Prim.Native.Nat.{ℕ, _<_}
 use mathlib.Core.Path.{_≡_, sym, _∙_}
 use mathlib.Core.List.{List}
+use Rattle.run.specs.Run.{hasByte3}
+use Rattle.registers.specs.Registers.{numberedOf}
 use Rattle.prescaler.specs.PrescalerFields.{counterAt, factorAt}
 use Rattle.prescaler.proofs.PrescalerLaws.{pass-count-divides}
 use Rattle.supervisor.specs.Supervisor.{freshOf}
@@ -16,13 +18,13 @@ use Rattle.declines.specs.Answers.{Reply}
 use Rattle.declines.specs.Calls.{markedOf}
 use Rattle.declines.specs.Runs.{Ask, Call, recordAfter, Entry, logOf}
 use Rattle.declines.specs.Follow.{afterCall}
-use Rattle.declines.proofs.CallEnds.{End, refused, refusedActive, wrote, gave, stored, ran}
+use Rattle.declines.proofs.CallEnds.{End, refused, refusedActive, wrote, read, gave, stored, ran}
 use Rattle.declines.proofs.CallEnds.{Chain, stop, then, run-is-chain}
 use Rattle.account.specs.AccountFields.{Account}
 use Rattle.account.specs.Account.{start, rules, accountOf}
 use Rattle.account.specs.Demand3.{Balanced, Demand3, wordsOf}
 use Rattle.account.proofs.Invariant.{Invariant}
-use Rattle.account.proofs.WriteLaw.{fresh-has-invariant, write-keeps-invariant}
+use Rattle.account.proofs.WriteLaw.{fresh-has-invariant, write-keeps-invariant, read-keeps-invariant}
 use Rattle.account.proofs.TickLaw.{ticked-keeps-invariant}
 
 -- ---- one call, by how it ends
@@ -37,8 +39,9 @@ end-keeps-invariant : {branches : ℕ} {memory : List ℕ} {s : Supervisor} {ask
 unfolding markedOf
 end-keeps-invariant a v (refused ask n h) = v
 end-keeps-invariant a v (refusedActive ask) = v
-end-keeps-invariant {s = s} a v (wrote number x valid) = write-keeps-invariant s a v number x
-end-keeps-invariant a v (gave ask n) = v
+end-keeps-invariant {s = s} a v (wrote number run x valid) = write-keeps-invariant s a v number run x
+end-keeps-invariant {s = s} a v (read number run n) = read-keeps-invariant s a v (numberedOf number) (hasByte3 run)
+end-keeps-invariant a v (gave place n) = v
 end-keeps-invariant a v (stored place word) = v
 end-keeps-invariant {memory = memory} {s = s} a v (ran x clean) = ticked-keeps-invariant memory x s clean a v
 
@@ -62,9 +65,9 @@ invariant-implies-balanced s a v =
       events = v .events .balance;
       decides = v .events .decides;
       words = v .branches .words;
-      prescales = λ i h.
+      prescales = λ i h owed.
           rw (v .settings .factors i)
-          (pass-count-divides (q .n i) (q .p i) (counterAt b i) (factorAt b i) (v .settings .count i h));
+          (pass-count-divides (q .n i) (q .p i) (counterAt b i) (factorAt b i) (v .settings .count i h owed));
     }
 
 pub every-run-balances : (branches : ℕ) → Demand3 branches

@@ -87,9 +87,9 @@ module _ (memory : List ℕ) (x : Inputs) (s : Supervisor) where
         factors = λ i.
             v .factors i
             ∙ sym (ap (λ (f : List ℕ). getD f i 0) (laws.step-keeps-factors room empty x memory (s .core)));
-        count = λ i h.
+        count = λ i h owed.
             rw (v .control)
-            (laws.step-keeps-pass-count room empty x memory (s .core) i (q .n i) (q .p i) h (v .eight) (v .count i h));
+            (laws.step-keeps-pass-count room empty x memory (s .core) i (q .n i) (q .p i) h (v .eight) (v .count i h owed));
       }
 
   -- [Account.13] [Account.14] [Account.18]

@@ -1,20 +1,22 @@
 -- The account of demand 3: what a bystander keeps, from the log of asks and replies alone.
---     document 01    "The account of demand 3"
+--     document 01    "The account of demand 3"; document 02, N4
 --     startOf        the account at the start, at a control value and factors that were written
 --     afterTick      after a tick that was carried out
 --     afterWrite     after a register write that was carried out
 --     accountOf      after a whole log; by its type it sees neither record nor memory
--- It shares with the machine only words: which register a number names, what a CSR write asks, which pulses count, what a
--- mask's bit is, which outcome an answer reports and the word in it.
--- Own rules of 01 used here: none. Decisions: none. Left out: nothing.
+-- It shares with the machine only words: which register a number names, which bytes a run holds, what a CSR write asks, which
+-- pulses count, what a mask's bit is, which outcome an answer reports and the word in it.
+-- Own rules of 01 used here: none. Decisions: R7. Left out: nothing.
 -- Assumes nothing.
 use Prim.Native.Nat.{ℕ, _+_, _-_}
-use mathlib.Core.Bool.{Bool, false, not, _&&_, _||_}
+use mathlib.Core.Bool.{Bool, true, false, not, _&&_, _||_}
 use mathlib.Core.List.{List, [], _++_}
+use lib.Dec.{eqb}
 use lib.ListN.{getD}
-use Rattle.bits.specs.Notation.{_▷_}
+use Rattle.bits.specs.Notation.{if_then_else_, _▷_}
 use Rattle.bits.specs.Bits.{bitAt, oneIfOf}
-use Rattle.registers.specs.Csr.{requestedOf}
+use Rattle.run.specs.Run.{hasByte3, overlaidOf}
+use Rattle.run.specs.declared.Run.{Run}
 use Rattle.registers.specs.Control.{counts}
 use Rattle.registers.specs.declared.csr.Request.{Request}
 use Rattle.registers.specs.declared.csr.Request.the-variants.{Nothing, Reset, Initialize}
@@ -31,6 +33,7 @@ use Rattle.scalers.specs.Scalers.{isSome}
 use Rattle.trigger.specs.Lines.{hasStrobe}
 use Rattle.trigger.specs.declared.lines.Inputs.{Inputs}
 use Rattle.supervisor.specs.declared.Answer.{Answer}
+use Rattle.access.specs.Access.{requestedBy}
 use Rattle.declines.specs.Runs.{Entry}
 use Rattle.declines.specs.Follow.{Rules, afterLog}
 use Rattle.account.specs.AccountFields.{Settings, Passes, Sums, Events, Account}
@@ -47,14 +50,21 @@ noSums = record { counted = λ i. 0; stopped = λ i. 0; scaled = λ i. 0; lost =
 abbrev pub noEvents : Events
 noEvents = record { accepted = 0; cleared = 0; loaded = 0; tags = 0; undecided = false }
 
--- [Account.4] [Account.9] all counts 0, all lists empty, nothing undecided
-abbrev pub startOf : Settings → Account
-startOf settings =
-    record { settings = settings; passes = noPasses; sums = noSums; events = noEvents; words = []; finished = λ k. [] }
+-- [Account.4] [Account.9] all counts 0, all lists empty, nothing undecided; [Bytes.10a] every pass count is owed
+abbrev pub startOf : (control : ℕ) → (factor : ℕ → ℕ) → Account
+startOf control factor =
+    record {
+      settings = record { control = control; factor = factor; owed = λ i. true };
+      passes = noPasses;
+      sums = noSums;
+      events = noEvents;
+      words = [];
+      finished = λ k. [];
+    }
 
 -- [Account.4] control 0, every factor 0
 abbrev pub start : Account
-start = startOf (record { control = 0; factor = λ i. 0 })
+start = startOf 0 (λ i. 0)
 
 -- ---- a tick carried out
 
@@ -121,31 +131,51 @@ afterTick x y a =
 -- [Account.8] [Account.9]
 abbrev pub afterRequest : Request → Account → Account
 afterRequest Initialize a = start
-afterRequest Reset a = startOf (a .settings)
+afterRequest Reset a = startOf (a .settings .control) (a .settings .factor)
 afterRequest Nothing a = a
 
--- [Account.7] input is counted from 1; its own n and p start anew
-abbrev pub afterFactor : (input v : ℕ) → Account → Account
-afterFactor input v a =
-    a ▷ withSettings (record { control = a .settings .control; factor = put (a .settings .factor) (input - 1) v })
-    ▷ withPasses (record { n = put (a .passes .n) (input - 1) 0; p = put (a .passes .p) (input - 1) 0 })
+-- the settings with another factor of an input, counted from 0, and whether its pass count is owed
+abbrev pub factorSet : (i v : ℕ) (owed : Bool) → Settings → Settings
+factorSet i v owed s = record { control = s .control; factor = put (s .factor) i v; owed = put (s .owed) i owed }
 
--- [Account.5] [Account.6] every other setting leaves it alone
-abbrev pub afterSetting : Setting → (v : ℕ) → Account → Account
-afterSetting Control v a = a ▷ withSettings (record { control = v; factor = a .settings .factor })
-afterSetting (Factor input) v a = afterFactor input v a
-afterSetting RocEnable v a = a
-afterSetting Interval v a = a
-afterSetting (Timer n) v a = a
+-- [Account.7] its own n and p start anew
+abbrev pub passesLoaded : (i : ℕ) → Passes → Passes
+passesLoaded i q = record { n = put (q .n) i 0; p = put (q .p) i 0 }
 
--- [Account.5] and every other register
-abbrev pub afterWrite : Register → (v : ℕ) → Account → Account
-afterWrite Csr v a = afterRequest (requestedOf v) a
-afterWrite (register.Setting r) v a = afterSetting r v a
-afterWrite (Scaler n) v a = a
-afterWrite Assign v a = a
-afterWrite State v a = a
-afterWrite Absent v a = a
+-- [Bytes.10b] only a load does that; from it on the pass count is owed
+abbrev pub afterLoad : (i v : ℕ) → Account → Account
+afterLoad i v a = a ▷ withSettings (factorSet i v true (a .settings)) ▷ withPasses (passesLoaded i (a .passes))
+
+-- [Bytes.10a] without a load it is owed for as long as the factor stays what it was
+abbrev pub stillOwed : (i v : ℕ) → Settings → Bool
+stillOwed i v s = s .owed i && eqb v (s .factor i)
+
+abbrev pub afterChange : (i v : ℕ) → Account → Account
+afterChange i v a = a ▷ withSettings (factorSet i v (stillOwed i v (a .settings)) (a .settings))
+
+-- [Bytes.4a] a write with BYTE(3) loads; i is the input, counted from 0, v the merged value
+abbrev pub afterFactor : (loads : Bool) (i v : ℕ) → Account → Account
+afterFactor loads i v a = if loads then afterLoad i v a else afterChange i v a
+
+-- [Account.5] [Account.6] every other setting leaves it alone; [Bytes.10b] the account keeps merged values
+abbrev pub afterSetting : Setting → Run → (v : ℕ) → Account → Account
+afterSetting Control run v a =
+    let s = a .settings in
+    a ▷ withSettings (record { control = overlaidOf run (s .control) v; factor = s .factor; owed = s .owed })
+afterSetting (Factor input) run v a =
+    afterFactor (hasByte3 run) (input - 1) (overlaidOf run (a .settings .factor (input - 1)) v) a
+afterSetting RocEnable run v a = a
+afterSetting Interval run v a = a
+afterSetting (Timer n) run v a = a
+
+-- [Account.5] and every other register; [Bytes.3b] what a CSR write lacks counts as 0
+abbrev pub afterWrite : Register → Run → (v : ℕ) → Account → Account
+afterWrite Csr run v a = afterRequest (requestedBy run v) a
+afterWrite (register.Setting r) run v a = afterSetting r run v a
+afterWrite (Scaler n) run v a = a
+afterWrite Assign run v a = a
+afterWrite State run v a = a
+afterWrite Absent run v a = a
 
 -- ---- a whole log
 

@@ -1,6 +1,6 @@
 -- The account's record, and changes of its parts. Nothing of document 01 is decided here.
 --     Account     what a bystander keeps; inputs and branches are counted from 0
---     Settings    the control and the factors that were written
+--     Settings    the control and the factors that were written, and where n div (F + 1) is owed
 --     Passes      by input: how many of its pulses met its prescaler, and how many passed
 --     Sums        by input: how many of its pulses counted, and how often each mask has its bit
 --     Events      how events went on
@@ -35,8 +35,10 @@ pub record Settings : Type 0 where
   pub control : ℕ
   -- of each input
   pub factor : ℕ → ℕ
+  -- [Bytes.10a] of each input: its factor has not changed since its counter was loaded
+  pub owed : ℕ → Bool
 
--- of each input: counted pulses not stopped, and those passed, since its factor was last written, RESET or INITIALIZE
+-- of each input: counted pulses not stopped, and those passed, since its counter was last loaded, RESET or INITIALIZE
 pub record Passes : Type 0 where
   pub n : ℕ → ℕ
   pub p : ℕ → ℕ
@@ -56,5 +58,5 @@ withSettings v a = record { settings = v; passes = a .passes; sums = a .sums; ev
 abbrev pub withPasses : Passes → Account → Account
 withPasses v a = record { settings = a .settings; passes = v; sums = a .sums; events = a .events; words = a .words; finished = a .finished }
 
-abbrev pub put : (ℕ → ℕ) → (k v : ℕ) → ℕ → ℕ
+abbrev pub put : {A : Type 0} → (ℕ → A) → (k : ℕ) (v : A) → ℕ → A
 put f k v i = if eqb i k then v else f i

@@ -5,14 +5,15 @@
 -- words that a branch finished, followed by those it holds, are the words loaded, in their order, one for each event loaded
 -- and each tag; and it holds at most eight. Every counted pulse of every input is in exactly one mask. Accepted events are
 -- cleared, loaded or the one undecided, and there is such a one if and only if main stands at Delay, Wait 2, Wait 3 or
--- Front. Of n pulses n div (F + 1) pass.
---     document 01    "The account of demand 3"
+-- Front. Of n pulses n div (F + 1) pass, where no write without BYTE(3) has changed the factor since the counter was loaded.
+--     document 01    "The account of demand 3"; document 02, N4
 --     Balanced       the statement, of a record and an account
 --     Demand3        it holds after every list of calls
--- Own rules of 01 used here: none. Decisions: E1. Left out: nothing.
+-- Own rules of 01 used here: none. Decisions: E1, R7. Left out: where the pass count is owed at least, in Owed.
 -- Assumes nothing.
 use Prim.Native.Nat.{ℕ, _+_, _/_, _<_, _≤_}
 use mathlib.Core.Path.{_≡_}
+use mathlib.Core.Bool.{true}
 use mathlib.Core.List.{List, _++_}
 use lib.ListN.{length}
 use Rattle.bits.specs.Bits.{oneIfOf}
@@ -29,6 +30,10 @@ use Rattle.account.specs.Account.{start, accountOf}
 -- the words held by branch k + 1
 abbrev pub heldAt : Supervisor → (k : ℕ) → List ℕ
 heldAt s k = held (branchAt (s .readout .branches) k)
+
+-- [Account.17] of n pulses not stopped since the counter was loaded n div (F + 1) passed
+abbrev pub Divides : Account → (i : ℕ) → Type 0
+Divides a i = a .passes .p i ≡ a .passes .n i / (a .settings .factor i + 1)
 
 pub record Balanced (branches : ℕ) (s : Supervisor) (a : Account) : Type 0 where
   -- the record has that many branches
@@ -47,8 +52,8 @@ pub record Balanced (branches : ℕ) (s : Supervisor) (a : Account) : Type 0 whe
   pub events : a .events .accepted ≡ a .events .cleared + a .events .loaded + oneIfOf (a .events .undecided)
   -- [Account.18] main holds the undecided one
   pub decides : a .events .undecided ≡ isUndecided (s .core .main .state)
-  -- [Account.17] of n pulses not stopped since the factor was written n div (F + 1) passed
-  pub prescales : (i : ℕ) → i < inputs → a .passes .p i ≡ a .passes .n i / (a .settings .factor i + 1)
+  -- [Account.17] [Bytes.10a] n div (F + 1) passed, where that is owed
+  pub prescales : (i : ℕ) → i < inputs → a .settings .owed i ≡ true → Divides a i
 
 -- [Account.1]
 unfoldable pub Demand3 : (branches : ℕ) → Type 0

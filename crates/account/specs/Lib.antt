@@ -2,3 +2,5 @@
 pub mod AccountFields
 pub mod Account
 pub mod Demand3
+pub mod Owed
+pub mod OwedExamples
