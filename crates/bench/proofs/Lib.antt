@@ -3,6 +3,7 @@ pub mod Opened
 pub mod Examples
 pub mod BlindExamples
 pub mod StateExamples
+pub mod BytesExamples
 pub mod Script
 pub mod Misreadings
 pub mod SessionsLaws

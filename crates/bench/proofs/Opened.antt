@@ -4,6 +4,7 @@
 use mathlib.Core.Bool.{Bool, true}
 use Rattle.bits.specs.Bits as bits
 use Rattle.bits.specs.Bytes as bytes
+use Rattle.run.specs.Run as run
 use Rattle.registers.specs.Control as control
 use Rattle.registers.specs.Csr as csr
 use Rattle.registers.specs.Registers as registers
@@ -27,5 +28,5 @@ use Rattle.declines.specs.Runs as runs
 use Rattle.bench.specs.Asks as asks
 
 unfoldable pub machine : Bool
-unfolding bits.maskOf bits.tabulate bits.every bytes.bytes bytes.isSameOf control.countedOf csr.clearedIfOf csr.markedOf csr.syncHoldEndedOf csr.userSyncEndedOf csr.syncHoldEndedIfOf csr.userSyncEndedIfOf csr.requestedOf csr.setThenClearedOf csr.changedOf csr.writtenOf registers.numberedOf prescaler.withFactorOf prescaler.factorOf prescaler.stepOf prescaler.hasCountersWithinOf prescaler.hasValidFactorsOf timers.writtenOf timers.storedOf counter.afterLoadOf user.stepOf memory.classInOf main.agedOf main.acceptedOf main.stepOf main.isWellFormedOf scalers.countsOf scalers.countedOf branch.movedOf branch.appendedOf branch.stepOf branch.isWellFormedOf readout.emptiedOf readout.isEmptyOf readout.hasRoomOf readout.isQuietOf readout.branchesAfterOf readout.sidesAfterOf readout.stepOf readout.isWellFormedOf core.freshOf core.resetOf core.pulsedOf core.testsOf core.mainStepOf effects.csrAfterOf effects.syncAfterOf core.settledOf core.stepOf core.linesOutOf spoiled.isSoundOf supervisor.freshOf supervisor.initializedOf supervisor.resetOf supervisor.isActiveOf supervisor.isSpoiledOf supervisor.coreStepOf supervisor.readoutStepOf supervisor.joinedOf supervisor.tickedOf calls.markedOf calls.writeRegisterOf calls.readRegisterOf calls.writeMemoryOf calls.memoryAfterOf calls.readMemoryOf calls.tickOf runs.freshSession access.csrWrittenOf access.settingWrittenOf access.writtenOf access.settingOf state.stateBitsOf state.stateOf access.storedOf asks.times
+unfolding bits.maskOf bits.tabulate bits.every bytes.bytes bytes.isSameOf run.isRunOf run.holdsByte run.overlaidOf control.countedOf csr.clearedIfOf csr.markedOf csr.syncHoldEndedOf csr.userSyncEndedOf csr.syncHoldEndedIfOf csr.userSyncEndedIfOf csr.requestedOf csr.setThenClearedOf csr.changedOf csr.writtenOf registers.numberedOf prescaler.withFactorOf prescaler.factorOf prescaler.stepOf prescaler.allFitOf timers.writtenOf timers.storedOf counter.afterLoadOf user.stepOf memory.classInOf main.agedOf main.acceptedOf main.stepOf main.isWellFormedOf scalers.countsOf scalers.countedOf branch.movedOf branch.appendedOf branch.stepOf branch.isWellFormedOf readout.emptiedOf readout.isEmptyOf readout.hasRoomOf readout.isQuietOf readout.branchesAfterOf readout.sidesAfterOf readout.stepOf readout.isWellFormedOf core.freshOf core.resetOf core.pulsedOf core.testsOf core.mainStepOf effects.csrAfterOf effects.syncAfterOf core.settledOf core.stepOf core.linesOutOf spoiled.isSoundOf supervisor.freshOf supervisor.initializedOf supervisor.resetOf supervisor.isActiveOf supervisor.isSpoiledOf supervisor.coreStepOf supervisor.readoutStepOf supervisor.joinedOf supervisor.tickedOf calls.markedOf calls.writeRunOf calls.readRunOf calls.writeBytesOf calls.readBytesOf calls.writeMemoryOf calls.memoryAfterOf calls.readMemoryOf calls.tickOf runs.freshSession access.csrWrittenOf access.settingWrittenOf access.writtenOf access.settingOf access.baseOf state.stateBitsOf state.stateOf access.afterReadOf access.shownOf asks.times
 machine = true

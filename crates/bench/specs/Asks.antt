@@ -1,12 +1,14 @@
 -- The asks of an example by name: registers, bits of their values, lines, ticks. Nothing of document 01 is decided here.
---     write, read, store, pulse, lines, acknowledge   one ask
+--     write, read, store, pulse, lines, acknowledge   one ask; writeBytes, readBytes, writeBy, readBy: by runs of bytes
 --     ticks n, times n l, event i   several
 -- Assumes nothing.
 use Prim.Native.Nat.{ℕ, zero, suc, _+_, _-_, _^_}
 use mathlib.Core.List.{List, [], _∷_, _++_}
 use lib.ListN.{replicate}
 use Rattle.trigger.specs.Lines.{inputsOf}
-use Rattle.declines.specs.Runs.{Ask, writeRegister, readRegister, writeMemory, tick}
+use Rattle.run.specs.Run.{run}
+use Rattle.run.specs.declared.Run.{Run}
+use Rattle.declines.specs.Runs.{Ask, writeRegister, readRegister, plainWrite, plainRead, writeMemory, tick}
 
 -- ---- the registers, as [Registers.1] and [State.1] number them
 
@@ -109,10 +111,26 @@ inhibit = 2 ^ 6
 -- ---- one ask
 
 abbrev pub write : (register value : ℕ) → Ask
-write register value = writeRegister register value
+write register value = plainWrite register value
 
 abbrev pub read : (register : ℕ) → Ask
-read register = readRegister register
+read register = plainRead register
+
+-- [Bytes.2] the same by a run of bytes
+abbrev pub writeBytes : (first count register value : ℕ) → Ask
+writeBytes first count register value = writeRegister register (run first count) value
+
+abbrev pub readBytes : (first count register : ℕ) → Ask
+readBytes first count register = readRegister register (run first count)
+
+-- and by each of some runs
+abbrev pub readBy : List Run → (register : ℕ) → List Ask
+readBy [] register = []
+readBy (r ∷ rs) register = readRegister register r ∷ readBy rs register
+
+abbrev pub writeBy : List Run → (register value : ℕ) → List Ask
+writeBy [] register value = []
+writeBy (r ∷ rs) register value = writeRegister register r value ∷ writeBy rs register value
 
 -- [Memory.1] the word for a pulse of input 1 alone
 abbrev pub store : (word : ℕ) → Ask

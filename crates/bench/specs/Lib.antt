@@ -4,3 +4,4 @@ pub mod Sessions
 pub mod Bench
 pub mod Blind
 pub mod State
+pub mod Bytes

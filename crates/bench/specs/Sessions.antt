@@ -26,8 +26,8 @@ use Rattle.declines.specs.Runs.{Result, askOf, memoryAfter, Session, session, f
 -- the machine of Runs, a line for each ask. An edit of this crate bends one of the lines: a wrong machine, which some example
 -- must tell from this one
 abbrev pub answered : Ask → List ℕ → Supervisor → Result
-answered (writeRegister number v) memory s = askOf (writeRegister number v) memory s
-answered (readRegister number) memory s = askOf (readRegister number) memory s
+answered (writeRegister number run v) memory s = askOf (writeRegister number run v) memory s
+answered (readRegister number run) memory s = askOf (readRegister number run) memory s
 answered (writeMemory place word) memory s = askOf (writeMemory place word) memory s
 answered (readMemory place) memory s = askOf (readMemory place) memory s
 answered (tick x) memory s = askOf (tick x) memory s

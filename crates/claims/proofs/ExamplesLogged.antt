@@ -14,8 +14,8 @@ use Rattle.bench.specs.Sessions.{answered, repliesBy, repliesLogged}
 use Rattle.bench.proofs.SessionsLaws.{replies-are-logged}
 
 answered-is-asked : (a : Ask) (memory : List ℕ) (s : Supervisor) → answered a memory s ≡ askOf a memory s
-answered-is-asked (writeRegister n v) memory s = refl
-answered-is-asked (readRegister n) memory s = refl
+answered-is-asked (writeRegister n run v) memory s = refl
+answered-is-asked (readRegister n run) memory s = refl
 answered-is-asked (writeMemory p w) memory s = refl
 answered-is-asked (readMemory p) memory s = refl
 answered-is-asked (tick x) memory s = refl

@@ -3,3 +3,4 @@ pub mod ExamplesLogged
 pub mod Proved
 pub mod PartsProved
 pub mod RequestsProved
+pub mod BytesProved

@@ -7,6 +7,8 @@
 --     Supervisor::fresh      supervisor/specs/Supervisor, freshOf at moduleBranches, which is four
 --     write_register         declines/specs/Calls, writeRegisterOf
 --     read_register          declines/specs/Calls, readRegisterOf
+--     write_bytes            declines/specs/Calls, writeBytesOf
+--     read_bytes             declines/specs/Calls, readBytesOf
 --     write_memory           declines/specs/Calls, writeMemoryOf, and memoryAfterOf for the memory after it
 --     read_memory            declines/specs/Calls, readMemoryOf; the memory is lent for reading only
 --     tick                   declines/specs/Calls, tickOf; the memory is lent for reading only
@@ -40,7 +42,8 @@ use Rattle.reader.specs.declared.Command.{Command}
 -- ---- demand 1, beside the contracts
 
 -- [Declines.1a] A call is refused by the first of its tests that fails, with that test's number; where none fails it is
--- carried out. declines/specs/Refusals has the tests of every call in document 01's order.
+-- carried out. declines/specs/Refusals has the tests of every call in the documents' order; a plain register call is that of
+-- the whole run (WholeRunIsPlainWrite, WholeRunIsPlainRead in Bytes).
 abbrev pub RefusesInOrder : Type 0
 RefusesInOrder =
     (a : Ask) (memory : List ℕ) (s : Supervisor) → declineOrZero (askOf a memory s .reply) ≡ firstOf (refusalsOf a memory s)
@@ -67,7 +70,8 @@ SpoiledRecordRefuses =
 
 -- [Account.1] After every list of calls from a fresh supervisor, refused ones among them, whatever memory is lent,
 -- record and account balance: the words of each branch in order and at most eight held, the masks of each input, the
--- events and whether main holds the undecided one, n div (F + 1).
+-- events and whether main holds the undecided one, n div (F + 1) where that is owed ([Bytes.10a]; PassCountOwed and PassCountOwedFromALoad in Bytes
+-- say where at least).
 abbrev pub EveryRunBalances : Type 0
 EveryRunBalances = Demand3 moduleBranches
 

@@ -2,3 +2,4 @@
 pub mod Claims
 pub mod Parts
 pub mod Requests
+pub mod Bytes

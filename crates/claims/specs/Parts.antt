@@ -1,5 +1,5 @@
 -- What is claimed of the parts, each by itself and for every value of its types: the rules of document 01 that a part keeps
--- whatever stands around it; those of document 02 are in Requests. proofs/PartsProved.antt proves each by citing its law.
+-- whatever stands around it; those of document 02 are in Requests and Bytes. proofs/PartsProved.antt proves each by citing its law.
 -- Assumes nothing.
 use Prim.Native.Nat.{ℕ, _+_, _/_, _^_, _<_, _≤_}
 use mathlib.Core.Path.{_≡_}
@@ -141,7 +141,7 @@ abbrev pub FirstPulseIsScaled : Type 0
 FirstPulseIsScaled =
     (pulses i : ℕ) → i < prescaler.prescaledInputs → bitAt pulses i ≡ true → (input factor : ℕ) (b : Prescalers)
     → i + 1 ≡ input → EightPlaces b → 0 < factor
-    → ScaledAt (prescaler.stepOf true pulses (prescaler.withFactorOf input factor b)) i
+    → ScaledAt (prescaler.stepOf true pulses (prescaler.withFactorOf true input factor b)) i
 
 -- [CSRWrite.2d] The same after RESET, which loads every counter.
 abbrev pub FirstPulseIsScaledAfterReset : Type 0

@@ -1,4 +1,4 @@
--- What is claimed of document 02's requests, for every value of the types; what they change of document 01's claims stands
+-- What is claimed of document 02's requests but N4, which has Bytes, for every value of the types; what they change of document 01's claims stands
 -- with those. proofs/RequestsProved.antt proves each by citing its law.
 -- Assumes nothing.
 use Prim.Native.Nat.{ℕ, suc, _<_}
@@ -6,6 +6,7 @@ use mathlib.Core.Path.{_≡_}
 use mathlib.Core.Bool.{Bool, true, false}
 use mathlib.Core.List.{List}
 use Rattle.bits.specs.Bits.{bitAt}
+use Rattle.run.specs.declared.Run.{Run}
 use Rattle.scalers.specs.Scalers.{isSome}
 use Rattle.branches.specs.Readout.{moduleBranches}
 use Rattle.trigger.specs.BlindTime.{LosesAll}
@@ -16,7 +17,7 @@ use Rattle.supervisor.specs.Supervisor.{freshOf, resetOf, isSpoiledOf, tickedOf
 use Rattle.supervisor.specs.declared.Supervisor.{Supervisor}
 use Rattle.state.specs.State.{stateBitAt, stateOf, latestTickIn, ShowsTick}
 use Rattle.declines.specs.Answers.{declined, value}
-use Rattle.declines.specs.Runs.{writeRegister, readRegister, askOf}
+use Rattle.declines.specs.Runs.{writeRegister, plainRead, askOf}
 use Rattle.declines.specs.LatestTick.{KeepsTheLatestTick}
 use Rattle.bench.specs.Bench.{allRight}
 use Rattle.bench.specs.Blind.{blindExamples}
@@ -53,15 +54,15 @@ BlindExamples = allRight blindExamples ≡ true
 -- ---- N2: the STATE register
 
 -- [State.8a] A record that is not spoiled answers a read of register 20 with its STATE; [State.8b] it declines a write with
--- 3, active or not, and is left as it is.
+-- 3, by any run of bytes, active or not, and is left as it is.
 abbrev pub StateIsRead : Type 0
 StateIsRead =
-    (memory : List ℕ) (s : Supervisor) → isSpoiledOf s ≡ false → askOf (readRegister 20) memory s .reply ≡ value (stateOf s)
+    (memory : List ℕ) (s : Supervisor) → isSpoiledOf s ≡ false → askOf (plainRead 20) memory s .reply ≡ value (stateOf s)
 
 abbrev pub StateIsNotWritten : Type 0
 StateIsNotWritten =
-    (v : ℕ) (memory : List ℕ) (s : Supervisor) → isSpoiledOf s ≡ false
-    → askOf (writeRegister 20 v) memory s ≡ record { reply = declined 3; next = s }
+    (r : Run) (v : ℕ) (memory : List ℕ) (s : Supervisor) → isSpoiledOf s ≡ false
+    → askOf (writeRegister 20 r v) memory s ≡ record { reply = declined 3; next = s }
 
 -- [State.2] Every bit of the word that a read gives is its test of the list; past the last there is none.
 abbrev pub StateShowsItsBits : Type 0

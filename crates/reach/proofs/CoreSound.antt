@@ -2,17 +2,16 @@
 --     tick-keeps-bank, tick-keeps-registers   a tick of the core
 --     reset-keeps-bank, fresh-has-bank        RESET, and power-up
 -- Assumes nothing.
-use mathlib.Core.Path.{_≡_, refl}
+use mathlib.Core.Path.{_≡_}
 use mathlib.Core.Bool.{Bool, true}
 use mathlib.Core.List.{List}
 use Prim.Native.Nat.{ℕ}
-use Rattle.bits.specs.Bits.{every}
 use Rattle.registers.specs.Csr as csr
 use Rattle.registers.proofs.CsrLaws as csrLaws
 use Rattle.registers.specs.Control.{countedOf}
 use Rattle.prescaler.specs.Prescaler as prescaler
 use Rattle.prescaler.specs.declared.Prescalers.{Prescalers}
-use Rattle.prescaler.proofs.PrescalerLaws as prescalerLaws
+use Rattle.prescaler.proofs.PrescalerWidths as widths
 use Rattle.prescaler.proofs.PrescalerLoadLaws as loadLaws
 use Rattle.sync.specs.declared.user.UserStep.{UserStep}
 use Rattle.sequencer.specs.declared.main_sequencer.MainStep.{MainStep}
@@ -39,11 +38,11 @@ module _ (room empty : Bool) (x : Inputs) (memory : List ℕ) (c : Core) where
   after = stepOf room empty x memory c .next
 
   pub tick-keeps-bank : SoundBank (c .prescalers) → SoundBank (after .prescalers)
-  unfolding stepOf settledOf pulsedOf prescaler.hasValidFactorsOf prescaler.stepOf
+  unfolding stepOf settledOf pulsedOf prescaler.stepOf
   tick-keeps-bank h =
       let pulses = countedOf (hasStrobe (x .lines)) (x .triggers) (c .control) in
       record {
-        counters = prescalerLaws.step-keeps-within (isRunning c) pulses (c .prescalers) (h .counters);
+        counters = widths.step-keeps-within (isRunning c) pulses (c .prescalers) (h .factors) (h .counters);
         factors = h .factors;
       }
 
@@ -57,10 +56,8 @@ module _ (room empty : Bool) (x : Inputs) (memory : List ℕ) (c : Core) where
 
 -- [CSRWrite.2d]
 pub reset-keeps-bank : (b : Prescalers) → SoundBank b → SoundBank (prescaler.reloadedOf b)
-unfolding prescaler.hasValidFactorsOf
-reset-keeps-bank b h = record { counters = loadLaws.reloaded-keeps-within b; factors = h .factors }
+reset-keeps-bank b h = record { counters = loadLaws.reloaded-keeps-within b (h .factors); factors = h .factors }
 
 -- [Registers.4]
 pub fresh-has-bank : SoundBank prescaler.freshOf
-unfolding prescaler.hasValidFactorsOf every
-fresh-has-bank = record { counters = loadLaws.fresh-has-within; factors = refl }
+fresh-has-bank = record { counters = loadLaws.fresh-has-within; factors = loadLaws.fresh-has-within }

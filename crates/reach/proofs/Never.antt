@@ -7,20 +7,21 @@ use Prim.Native.Nat.{ℕ}
 use mathlib.Core.Path.{_≡_}
 use mathlib.Core.Bool.{false}
 use mathlib.Core.List.{List}
+use Rattle.run.specs.Run.{hasByte3}
 use Rattle.registers.specs.Registers.{numberedOf}
 use Rattle.supervisor.specs.Supervisor.{freshOf, isSpoiledOf}
 use Rattle.supervisor.specs.declared.Supervisor.{Supervisor}
 use Rattle.declines.specs.Answers.{Reply}
 use Rattle.declines.specs.Calls.{markedOf}
 use Rattle.declines.specs.Runs.{Ask, Call, callOf, recordAfter, Entry}
-use Rattle.declines.proofs.CallEnds.{End, refused, refusedActive, wrote, gave, stored, ran, call-ends}
+use Rattle.declines.proofs.CallEnds.{End, refused, refusedActive, wrote, read, gave, stored, ran, call-ends}
 use Rattle.declines.proofs.CallEnds.{Chain, stop, then, run-is-chain}
 use Rattle.declines.specs.Refusals.{statusBit}
 use Rattle.reach.specs.NeverSpoiled.{OfType, KeepsUnspoiled, NeverSpoiled}
 use Rattle.reach.proofs.Sound.{Unspoiled, unspoiled-from-test, unspoiled-to-test}
 use Rattle.reach.proofs.TickSound.{tick-keeps-type, tick-keeps-unspoiled}
 use Rattle.reach.proofs.WriteSound.{fresh-is-of-type, fresh-is-unspoiled, marked-keeps-unspoiled}
-use Rattle.reach.proofs.WriteSound.{write-keeps-type, write-keeps-unspoiled}
+use Rattle.reach.proofs.WriteSound.{write-keeps-type, write-keeps-unspoiled, read-keeps-type, read-keeps-unspoiled}
 
 -- what every call keeps
 pub record UnspoiledOfType (s : Supervisor) : Type 0 where
@@ -41,12 +42,17 @@ end-keeps-fine : {memory : List ℕ} {s : Supervisor} {a : Ask} {reply : Reply} 
     → End memory s a reply next → UnspoiledOfType next
 end-keeps-fine fine (refused a n h) = fine
 end-keeps-fine {s = s} fine (refusedActive a) = marked-keeps-fine (statusBit a) s fine
-end-keeps-fine {s = s} fine (wrote number v valid) =
+end-keeps-fine {s = s} fine (wrote number run v valid) =
     record {
-      ofType = write-keeps-type s (fine .ofType) (fine .unspoiled) (numberedOf number) v;
-      unspoiled = write-keeps-unspoiled s (fine .ofType) (fine .unspoiled) (numberedOf number) v valid;
+      ofType = write-keeps-type s (fine .ofType) (fine .unspoiled) (numberedOf number) (hasByte3 run) _;
+      unspoiled = write-keeps-unspoiled s (fine .ofType) (fine .unspoiled) (numberedOf number) (hasByte3 run) _ valid;
     }
-end-keeps-fine fine (gave a v) = fine
+end-keeps-fine {s = s} fine (read number run v) =
+    record {
+      ofType = read-keeps-type s (fine .ofType) (fine .unspoiled) (numberedOf number) (hasByte3 run);
+      unspoiled = read-keeps-unspoiled s (fine .ofType) (fine .unspoiled) (numberedOf number) (hasByte3 run);
+    }
+end-keeps-fine fine (gave place v) = fine
 end-keeps-fine fine (stored place word) = fine
 end-keeps-fine {memory = memory} {s = s} fine (ran x clean) =
     record {

@@ -5,10 +5,10 @@
 --     Unspoiled               the four, of a core and a list of branches
 --     unspoiled-from-test, unspoiled-to-test   the spoiled rule and the facts say the same
 --     sound-test, branches-test   what the laws of the core and of the branches ask
---     blind-above-2-is-spoiled    a blind count out of its bound
+--     counter-beyond-width-is-spoiled, blind-above-2-is-spoiled   a counter and a blind count out of their bounds
 -- Assumes nothing.
-use Prim.Native.Nat.{ℕ, _<_}
-use mathlib.Core.Path.{_≡_, refl}
+use Prim.Native.Nat.{ℕ, suc, _<_}
+use mathlib.Core.Path.{_≡_, refl, sym, _∙_}
 use mathlib.Core.Bool.{Bool, true, false, _&&_, _||_}
 use mathlib.Core.List.{List, _++_}
 use native.Mathlib.Omega.{arith}
@@ -18,9 +18,11 @@ use borrow.Author.Tests.{not-false, leb-true}
 use Rattle.bits.proofs.TestLaws.{and-left, and-right, and-both, every-at, at-every, or-rest}
 use Rattle.bits.proofs.TestLaws.{all-true-at, all-true-left, all-true-right, all-true-both}
 use Rattle.registers.specs.Csr as csr
-use Rattle.registers.specs.Registers.{isValidControl, isValidAssign}
+use Rattle.registers.specs.Registers.{isValidControl, isValidFactor, isValidAssign}
 use Rattle.registers.specs.declared.csr.Csr.{Csr}
+use Rattle.prescaler.specs.PrescalerFields.{counterAt}
 use Rattle.prescaler.specs.Prescaler as prescaler
+use Rattle.prescaler.proofs.PrescalerWidths.{fit-at}
 use Rattle.prescaler.specs.declared.Prescalers.{Prescalers}
 use Rattle.branch.specs.Branch.{hasFreePlaceOf, WellFormedBranch}
 use Rattle.branch.specs.Branch as branch
@@ -38,7 +40,7 @@ use Rattle.reach.proofs.SequencersSound.{SoundSequencers, sequencers-fr
 -- ---- the facts
 
 pub record SoundBank (b : Prescalers) : Type 0 where
-  -- [Spoiled.1e]
+  -- [Bytes.9]
   pub counters : prescaler.hasCountersWithinOf b ≡ true
   -- [Spoiled.1a]
   pub factors : prescaler.hasValidFactorsOf b ≡ true
@@ -141,6 +143,18 @@ module _ (s : Supervisor) where
   unfolding isSpoiledOf
   unspoiled-to-test u =
       rw (branches-test eight (s .readout .branches) (u .branches), sound-test (s .core) (s .readout .branches) u)
+
+  -- [Bytes.9]
+  pub counter-beyond-width-is-spoiled : (i : ℕ) → i < prescaler.prescaledInputs
+      → isValidFactor (suc i) (counterAt (s .core .prescalers) i) ≡ false → isSpoiledOf s ≡ true
+  counter-beyond-width-is-spoiled i below beyond = go (isSpoiledOf s) refl
+    where
+      go : (spoiled : Bool) → isSpoiledOf s ≡ spoiled → spoiled ≡ true
+      go true e = refl
+      go false e =
+          let fits = fit-at (s .core .prescalers .counters) (unspoiled-from-test e .bank .counters) i below in
+          let z : false ≡ true = sym beyond ∙ fits in
+          cc
 
   -- [Blind.3]
   pub blind-above-2-is-spoiled : 2 < s .core .blind .count → isSpoiledOf s ≡ true

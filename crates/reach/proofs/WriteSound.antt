@@ -1,24 +1,22 @@
--- A register write that is carried out keeps a record that is not spoiled so.
+-- A register write or read that is carried out keeps a record that is not spoiled so.
 --     fresh-is-unspoiled     the fresh record, of any number of branches
 --     marked-keeps-unspoiled a status bit set by a decline
---     write-keeps-unspoiled  a write of a value that its register takes
---     fresh-is-of-type, write-keeps-type   what the code's types say
+--     write-keeps-unspoiled  a write of a value that its register takes; read-keeps-unspoiled: a read
+--     fresh-is-of-type, write-keeps-type, read-keeps-type   what the code's types say
 -- Assumes nothing.
-use Prim.Native.Nat.{ℕ, suc, _+_, _<_}
+use Prim.Native.Nat.{ℕ}
 use mathlib.Core.Path.{_≡_, refl}
-use mathlib.Core.Bool.{Bool, true, false}
+use mathlib.Core.Bool.{Bool, true, false, cond}
 use mathlib.Core.List.{List}
-use native.Mathlib.Omega.{arith}
 use native.Mathlib.Nat.{mod-lt}
 use lib.Dec.{eqb, lit<}
 use lib.ListN.{length}
 use lib.Pow.{pow-pos}
-use borrow.Author.Tests.{eqb-true, eqb-false}
 use Rattle.bits.specs.Notation.{_▷_}
-use Rattle.bits.proofs.TestLaws.{every-at, at-every, by-cond}
+use Rattle.bits.proofs.TestLaws.{by-cond}
 use Rattle.registers.specs.Csr as csr
 use Rattle.registers.proofs.CsrLaws as csrLaws
-use Rattle.registers.specs.Registers.{isValidValue, isValidSetting, isValidFactor, isValidAssign}
+use Rattle.registers.specs.Registers.{isValidValue, isValidSetting, isValidAssign}
 use Rattle.registers.specs.declared.csr.Csr.{Csr}
 use Rattle.registers.specs.declared.csr.CsrWrite.{CsrWrite}
 use Rattle.registers.specs.declared.csr.Request.{Request}
@@ -27,24 +25,21 @@ use Rattle.registers.specs.declared.register.Register.{Register}
 use Rattle.registers.specs.declared.register.Register.the-variants as register
 use Rattle.registers.specs.declared.register.Setting.{Setting}
 use Rattle.registers.specs.declared.register.Setting.the-variants.{Control, Factor, RocEnable, Interval, Timer}
-use Rattle.prescaler.specs.PrescalerFields.{factorAt}
-use Rattle.prescaler.specs.Prescaler as prescaler
-use Rattle.prescaler.specs.Prescaler.{EightPlaces}
 use Rattle.prescaler.proofs.PrescalerLoadLaws as loadLaws
-use Rattle.prescaler.specs.declared.Prescalers.{Prescalers}
 use Rattle.branch.specs.Branch as branch
 use Rattle.branch.proofs.BranchLaws.{fresh-well-formed}
 use Rattle.branch.specs.declared.Branch.{Branch}
 use Rattle.branches.specs.Readout as readout
 use Rattle.branches.proofs.ReadoutLaws as laws
+use Rattle.scalers.specs.ScalersFields.{withAssign}
 use Rattle.scalers.specs.Scalers as scalers
 use Rattle.scalers.specs.declared.Scalers.{Scalers}
 use Rattle.core.specs.CoreFields.{withCsr, withScalers}
 use Rattle.core.specs.Core as core
 use Rattle.core.specs.declared.Core.{Core}
-use Rattle.supervisor.specs.Supervisor.{freshOf, initializedOf, resetOf}
+use Rattle.supervisor.specs.Supervisor.{freshOf, onCore, initializedOf, resetOf}
 use Rattle.supervisor.specs.declared.Supervisor.{Supervisor}
-use Rattle.access.specs.Access.{afterCsrOf, csrWrittenOf, settingWrittenOf, writtenOf}
+use Rattle.access.specs.Access.{afterCsrOf, csrWrittenOf, settingWrittenOf, writtenOf, afterReadOf}
 use Rattle.declines.specs.Calls.{markedOf}
 use Rattle.reach.specs.NeverSpoiled.{OfType}
 use Rattle.reach.proofs.Sound.{SoundBranch, Unspoiled}
@@ -120,25 +115,6 @@ module _ (s : Supervisor) (u : Unspoiled (s .core) (s .readout .branches)) where
       by-request (csr.writtenOf v (s .core .csr) .request) (csr.writtenOf v (s .core .csr))
       (csrLaws.written-keeps-valid v (s .core .csr) (u .registers .csr))
 
--- ---- a factor
-
-module _ (input v : ℕ) (b : Prescalers) (eight : EightPlaces b) (valid : isValidFactor input v ≡ true) where
-  abbrev written : Prescalers
-  written = prescaler.withFactorOf input v b
-
-  factor-keeps-valid : prescaler.hasValidFactorsOf b ≡ true → prescaler.hasValidFactorsOf written ≡ true
-  unfolding prescaler.hasValidFactorsOf
-  factor-keeps-valid h = at-every 8 (λ i. isValidFactor (suc i) (factorAt written i)) (λ i k. go i k (eqb (i + 1) input) refl)
-    where
-      go : (i : ℕ) → i < 8 → (t : Bool) → eqb (i + 1) input ≡ t → isValidFactor (suc i) (factorAt written i) ≡ true
-      go i k true e =
-          let same : i + 1 ≡ input = eqb-true (i + 1) input e in
-          let number : suc i ≡ input = omega arith in
-          rw (loadLaws.with-factor-loads input v b i same k eight .factor, number) valid
-      go i k false e =
-          rw (loadLaws.with-factor-keeps-others input v b i (eqb-false (i + 1) input e) .factor)
-          (every-at 8 (λ j. isValidFactor (suc j) (factorAt b j)) h i k)
-
 -- ---- every register
 
 -- [Registers.3] a scaler written keeps the assign code
@@ -146,31 +122,37 @@ zeroed-keeps-assign : (n : ℕ) (x : Scalers) → isValidAssign (x .assign) ≡ 
     → isValidAssign (scalers.zeroedOf n x .assign) ≡ true
 zeroed-keeps-assign n x h = by-cond (λ (y : Scalers). isValidAssign (y .assign) ≡ true) (eqb n 0) (λ e. h) (λ e. h)
 
+-- [Bytes.5a] so does one latched
+latched-keeps-assign : (n : ℕ) (x : Scalers) → isValidAssign (x .assign) ≡ true
+    → isValidAssign (scalers.latchedOf n x .assign) ≡ true
+latched-keeps-assign n x h = by-cond (λ (y : Scalers). isValidAssign (y .assign) ≡ true) (eqb n 0) (λ e. h) (λ e. h)
+
 module _ (s : Supervisor) (ofType : OfType s) (u : Unspoiled (s .core) (s .readout .branches)) where
   -- a setting touches neither main, the user sync nor the branches
-  setting-keeps-unspoiled : (r : Setting) (v : ℕ) → isValidSetting r v ≡ true → UnspoiledAfter (settingWrittenOf r v) s
+  setting-keeps-unspoiled : (r : Setting) (loads : Bool) (v : ℕ) → isValidSetting r v ≡ true
+      → UnspoiledAfter (settingWrittenOf r loads v) s
   unfolding settingWrittenOf
-  setting-keeps-unspoiled Control v valid =
+  setting-keeps-unspoiled Control loads v valid =
       record {
         bank = u .bank;
         registers = record { csr = u .registers .csr; control = valid; assign = u .registers .assign };
         sequencers = u .sequencers;
         branches = u .branches;
       }
-  setting-keeps-unspoiled (Factor input) v valid =
+  setting-keeps-unspoiled (Factor input) loads v valid =
       let b = s .core .prescalers in
       record {
         bank = record {
-          counters = loadLaws.with-factor-keeps-within input v b (ofType .eight) (u .bank .counters);
-          factors = factor-keeps-valid input v b (ofType .eight) valid (u .bank .factors);
+          counters = loadLaws.with-factor-keeps-within input v b valid loads (u .bank .counters);
+          factors = loadLaws.with-factor-keeps-valid input v b valid loads (u .bank .factors);
         };
         registers = u .registers;
         sequencers = u .sequencers;
         branches = u .branches;
       }
-  setting-keeps-unspoiled RocEnable v valid = u
-  setting-keeps-unspoiled Interval v valid = u
-  setting-keeps-unspoiled (Timer n) v valid = u
+  setting-keeps-unspoiled RocEnable loads v valid = u
+  setting-keeps-unspoiled Interval loads v valid = u
+  setting-keeps-unspoiled (Timer n) loads v valid = u
 
   -- other scalers with a valid assign code
   with-scalers : (x : Scalers) → isValidAssign (x .assign) ≡ true
@@ -183,16 +165,35 @@ module _ (s : Supervisor) (ofType : OfType s) (u : Unspoiled (s .core) (s .reado
         branches = u .branches;
       }
 
-  pub write-keeps-unspoiled : (r : Register) (v : ℕ) → isValidValue r v ≡ true → UnspoiledAfter (writtenOf r v) s
+  -- a change of the record, made or not
+  made-or-not : (t : Bool) (x : Scalers) → isValidAssign (x .assign) ≡ true
+      → UnspoiledAfter (λ s′. cond t (s′ ▷ onCore (withScalers x)) s′) s
+  made-or-not true x valid = with-scalers x valid
+  made-or-not false x valid = u
+
+  pub write-keeps-unspoiled : (r : Register) (loads : Bool) (v : ℕ) → isValidValue r v ≡ true
+      → UnspoiledAfter (writtenOf r loads v) s
   unfolding writtenOf
-  write-keeps-unspoiled register.Csr v valid = csr-keeps-unspoiled s u v
-  write-keeps-unspoiled (register.Setting r) v valid = setting-keeps-unspoiled r v valid
-  write-keeps-unspoiled (register.Scaler n) v valid =
-      with-scalers (scalers.zeroedOf n (s .core .scalers))
+  write-keeps-unspoiled register.Csr loads v valid = csr-keeps-unspoiled s u v
+  write-keeps-unspoiled (register.Setting r) loads v valid = setting-keeps-unspoiled r loads v valid
+  write-keeps-unspoiled (register.Scaler n) loads v valid =
+      made-or-not loads (scalers.zeroedOf n (s .core .scalers))
       (zeroed-keeps-assign n (s .core .scalers) (u .registers .assign))
-  write-keeps-unspoiled register.Assign v valid = with-scalers (s .core .scalers ▷ scalers.withAssign v) valid
-  write-keeps-unspoiled register.State v valid = u
-  write-keeps-unspoiled register.Absent v valid = u
+  write-keeps-unspoiled register.Assign loads v valid = with-scalers (s .core .scalers ▷ withAssign v) valid
+  write-keeps-unspoiled register.State loads v valid = u
+  write-keeps-unspoiled register.Absent loads v valid = u
+
+  -- [Bytes.5a] a latch is no part of the rule
+  pub read-keeps-unspoiled : (r : Register) (latches : Bool) → UnspoiledAfter (afterReadOf r latches) s
+  unfolding afterReadOf
+  read-keeps-unspoiled register.Csr latches = u
+  read-keeps-unspoiled (register.Setting r) latches = u
+  read-keeps-unspoiled (register.Scaler n) latches =
+      made-or-not latches (scalers.latchedOf n (s .core .scalers))
+      (latched-keeps-assign n (s .core .scalers) (u .registers .assign))
+  read-keeps-unspoiled register.Assign latches = u
+  read-keeps-unspoiled register.State latches = u
+  read-keeps-unspoiled register.Absent latches = u
 
   -- ---- and the types
 
@@ -203,24 +204,38 @@ module _ (s : Supervisor) (ofType : OfType s) (u : Unspoiled (s .core) (s .reado
       record { eight = loadLaws.reloaded-keeps-lengths (s .core .prescalers) (ofType .eight); interval = ofType .interval }
   of-request Nothing w = record { eight = ofType .eight; interval = ofType .interval }
 
-  setting-keeps-type : (r : Setting) (v : ℕ) → OfType (settingWrittenOf r v s)
+  setting-keeps-type : (r : Setting) (loads : Bool) (v : ℕ) → OfType (settingWrittenOf r loads v s)
   unfolding settingWrittenOf
-  setting-keeps-type Control v = record { eight = ofType .eight; interval = ofType .interval }
-  setting-keeps-type (Factor input) v =
+  setting-keeps-type Control loads v = record { eight = ofType .eight; interval = ofType .interval }
+  setting-keeps-type (Factor input) loads v =
       record {
-        eight = loadLaws.with-factor-keeps-lengths input v (s .core .prescalers) (ofType .eight);
+        eight = loadLaws.with-factor-keeps-lengths input v (s .core .prescalers) loads (ofType .eight);
         interval = ofType .interval;
       }
-  setting-keeps-type RocEnable v = record { eight = ofType .eight; interval = ofType .interval }
-  setting-keeps-type Interval v = record { eight = ofType .eight; interval = mod-lt v (pow-pos 16) }
-  setting-keeps-type (Timer n) v = record { eight = ofType .eight; interval = ofType .interval }
+  setting-keeps-type RocEnable loads v = record { eight = ofType .eight; interval = ofType .interval }
+  setting-keeps-type Interval loads v = record { eight = ofType .eight; interval = mod-lt v (pow-pos 16) }
+  setting-keeps-type (Timer n) loads v = record { eight = ofType .eight; interval = ofType .interval }
 
-  pub write-keeps-type : (r : Register) (v : ℕ) → OfType (writtenOf r v s)
+  -- other scalers, or not
+  scalers-keep-type : (t : Bool) (x : Scalers) → OfType (cond t (s ▷ onCore (withScalers x)) s)
+  scalers-keep-type true x = record { eight = ofType .eight; interval = ofType .interval }
+  scalers-keep-type false x = ofType
+
+  pub write-keeps-type : (r : Register) (loads : Bool) (v : ℕ) → OfType (writtenOf r loads v s)
   unfolding writtenOf csrWrittenOf
-  write-keeps-type register.Csr v =
+  write-keeps-type register.Csr loads v =
       of-request (csr.writtenOf v (s .core .csr) .request) (csr.writtenOf v (s .core .csr))
-  write-keeps-type (register.Setting r) v = setting-keeps-type r v
-  write-keeps-type (register.Scaler n) v = record { eight = ofType .eight; interval = ofType .interval }
-  write-keeps-type register.Assign v = record { eight = ofType .eight; interval = ofType .interval }
-  write-keeps-type register.State v = ofType
-  write-keeps-type register.Absent v = ofType
+  write-keeps-type (register.Setting r) loads v = setting-keeps-type r loads v
+  write-keeps-type (register.Scaler n) loads v = scalers-keep-type loads (scalers.zeroedOf n (s .core .scalers))
+  write-keeps-type register.Assign loads v = scalers-keep-type true (s .core .scalers ▷ withAssign v)
+  write-keeps-type register.State loads v = ofType
+  write-keeps-type register.Absent loads v = ofType
+
+  pub read-keeps-type : (r : Register) (latches : Bool) → OfType (afterReadOf r latches s)
+  unfolding afterReadOf
+  read-keeps-type register.Csr latches = ofType
+  read-keeps-type (register.Setting r) latches = ofType
+  read-keeps-type (register.Scaler n) latches = scalers-keep-type latches (scalers.latchedOf n (s .core .scalers))
+  read-keeps-type register.Assign latches = ofType
+  read-keeps-type register.State latches = ofType
+  read-keeps-type register.Absent latches = ofType
