@@ -2,6 +2,10 @@
 // with the lines out; outcome; finished words; shown words.
 use branch::Slot;
 use branches::Side;
+use declines::BytesReadDone;
+use declines::BytesReading;
+use declines::BytesVerdict;
+use declines::BytesWriteDone;
 use declines::ReadDone;
 use declines::Reading;
 use declines::TickDone;
@@ -58,27 +62,44 @@ fn four(n0: u64, n1: u64, n2: u64, n3: u64) -> u64 {
     n0 | n1 << 16 | n2 << 32 | n3 << 48
 }
 
+// a call without a tick's answer: the number of its decline, and the value read
+fn short_reply(next: Supervisor, decline: u64, value: u32) -> Reply {
+    Reply {
+        next,
+        numbers: [decline, wide(value), 0, 0, 0, 0, 0, 0],
+    }
+}
+
 pub fn write_reply(r: WriteDone) -> Reply {
     let next = r.next;
     let answer = r.answer;
-    Reply {
-        next,
-        numbers: [verdict_number(answer), 0, 0, 0, 0, 0, 0, 0],
-    }
+    short_reply(next, verdict_number(answer), 0)
 }
 
 pub fn read_reply(r: ReadDone) -> Reply {
     let next = r.next;
     let answer = r.answer;
     match answer {
-        Reading::Value(value) => Reply {
-            next,
-            numbers: [0, wide(value), 0, 0, 0, 0, 0, 0],
-        },
-        Reading::Declined(why) => Reply {
-            next,
-            numbers: [why.number() as u64, 0, 0, 0, 0, 0, 0, 0],
-        }
+        Reading::Value(value) => short_reply(next, 0, value),
+        Reading::Declined(why) => short_reply(next, why.number() as u64, 0)
+    }
+}
+
+pub fn bytes_write_reply(r: BytesWriteDone) -> Reply {
+    let next = r.next;
+    let answer = r.answer;
+    match answer {
+        BytesVerdict::Done => short_reply(next, 0, 0),
+        BytesVerdict::Declined(why) => short_reply(next, why.number() as u64, 0)
+    }
+}
+
+pub fn bytes_read_reply(r: BytesReadDone) -> Reply {
+    let next = r.next;
+    let answer = r.answer;
+    match answer {
+        BytesReading::Value(value) => short_reply(next, 0, value),
+        BytesReading::Declined(why) => short_reply(next, why.number() as u64, 0)
     }
 }
 
@@ -121,8 +142,5 @@ pub fn tick_reply(r: TickDone) -> Reply {
 }
 
 pub fn fresh_reply() -> Reply {
-    Reply {
-        next: Supervisor::fresh(),
-        numbers: [0, 0, 0, 0, 0, 0, 0, 0],
-    }
+    short_reply(Supervisor::fresh(), 0, 0)
 }

@@ -4,12 +4,15 @@ use numbers::number_at;
 use numbers::put_eight;
 use numbers::put_record;
 use numbers::record_in;
+use run::Run;
 use supervisor::Supervisor;
 use trigger::lines::Inputs;
 
 mod answer;
 
 use answer::Reply;
+use answer::bytes_read_reply;
+use answer::bytes_write_reply;
 use answer::fresh_reply;
 use answer::read_reply;
 use answer::tick_reply;
@@ -24,7 +27,16 @@ fn word_of(n: u64) -> u32 {
     (n % 4294967296) as u32
 }
 
-// One call: 0 register write, 1 register read, 2 memory write, 3 memory read, 4 tick, above that fresh.
+// A run of bytes: its first byte, and its count in the upper half.
+fn run_of(n: u64) -> Run {
+    Run {
+        first: word_of(n),
+        count: word_of(n >> 32),
+    }
+}
+
+// One call: 0 register write, 1 register read, 2 memory write, 3 memory read, 4 tick, 6 and 7 register write and read by a
+// run of bytes, any other fresh.
 fn reply_to(s: Supervisor, memory: &mut [u16], kind: u64, a: u64, b: u64, c: u64) -> Reply {
     if kind == 0 {
         return write_reply(calls::write_register(s, word_of(a), word_of(b)));
@@ -44,6 +56,12 @@ fn reply_to(s: Supervisor, memory: &mut [u16], kind: u64, a: u64, b: u64, c: u64
             memory,
             Inputs::brought(word_of(a), word_of(b), word_of(c)),
         ));
+    }
+    if kind == 6 {
+        return bytes_write_reply(calls::write_bytes(s, word_of(a), run_of(c), word_of(b)));
+    }
+    if kind == 7 {
+        return bytes_read_reply(calls::read_bytes(s, word_of(a), run_of(c)));
     }
     fresh_reply()
 }

@@ -136,13 +136,15 @@ fn put_timers(out: &mut [u64], timers: Timers) {
     put(out, 16, wide8(timers.t5.0));
 }
 
-// ---- the scalers: 17–19
+// ---- the scalers: 17–19, 54, 55
 
 fn scalers_in(numbers: &[u64]) -> Scalers {
     Scalers {
         scaler0: word_at(numbers, 17),
         scaler1: word_at(numbers, 18),
         assign: word_at(numbers, 19),
+        latch0: word_at(numbers, 54),
+        latch1: word_at(numbers, 55),
     }
 }
 
@@ -150,6 +152,8 @@ fn put_scalers(out: &mut [u64], scalers: Scalers) {
     put(out, 17, wide(scalers.scaler0));
     put(out, 18, wide(scalers.scaler1));
     put(out, 19, wide(scalers.assign));
+    put(out, 54, wide(scalers.latch0));
+    put(out, 55, wide(scalers.latch1));
 }
 
 // ---- main: 28–35

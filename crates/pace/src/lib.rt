@@ -82,6 +82,7 @@ fn core_in(table: &[u64]) -> Core {
         scaler0: register_at(table, 17),
         scaler1: register_at(table, 18),
         assign: register_at(table, 19),
+        ..Scalers::fresh()
     };
     Core {
         prescalers: factors_in(table),
@@ -172,7 +173,7 @@ fn folded(sum: u64, answer: Answer, verdict: Verdict) -> u64 {
     )
 }
 
-// Scalers, CSR, sync count and what is kept of the latest tick, of the last record.
+// Scalers, CSR, sync count, what is kept of the latest tick and the latches, of the last record.
 fn closed(sum: u64, s: Supervisor) -> u64 {
     let core = s.core;
     let scalers = wide(core.scalers.scaler0) | wide(core.scalers.scaler1) << 32;
@@ -181,7 +182,8 @@ fn closed(sum: u64, s: Supervisor) -> u64 {
     let kept = wide(latest.lines.word)
         | wide(bits::one_if(latest.latched)) << 8
         | wide(s.readout.acks) << 32;
-    fold(fold(fold(sum, scalers), rest), kept)
+    let latches = wide(core.scalers.latch0) | wide(core.scalers.latch1) << 32;
+    fold(fold(fold(fold(sum, scalers), rest), kept), latches)
 }
 
 // ---- the loop
