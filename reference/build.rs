@@ -7,8 +7,9 @@ include!("src/bin/compare/fault_list.rs");
 fn main() {
     println!("cargo:rerun-if-changed=build.rs");
     println!("cargo:rerun-if-changed=src/machine");
-    for list in ["fault_list", "call_faults", "tick_faults", "request_faults", "state_faults", "kept_faults"] {
-        println!("cargo:rerun-if-changed=src/bin/compare/{list}.rs");
+    println!("cargo:rerun-if-changed=src/bin/compare/fault_list.rs");
+    for part in ["call", "tick", "request", "state", "kept", "byte", "latch"] {
+        println!("cargo:rerun-if-changed=src/bin/compare/{part}_faults.rs");
     }
     if std::env::var_os("CARGO_FEATURE_PROVED").is_none() {
         return;

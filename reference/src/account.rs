@@ -1,4 +1,4 @@
-//! The account of demand 3, kept from calls and answers alone. [Account.1]–[Account.18]
+//! The account of demand 3, kept from calls and answers alone. [Account.1]–[Account.18] [Bytes.10a] [Bytes.10b]
 //!
 //! Only register writes and ticks are told to it; reads and memory writes leave it alone. [Account.5]
 
@@ -16,18 +16,28 @@ pub struct Input {
     pub lost: u64,
     pub rejected: u64,
     pub accepted: u64,
-    /// Counted pulses not stopped since the factor's last load.
+    /// Counted pulses not stopped since the counter's last load. [Bytes.10b]
     pub n: u64,
     /// Those of them that passed.
     pub p: u64,
 }
 
+impl Input {
+    /// The pass count under this factor. [Account.17]
+    pub fn is_settled(&self, factor: u32) -> bool {
+        self.p == self.n / (u64::from(factor) + 1)
+    }
+}
+
 /// The account. 64 bits outlast any list of calls: at one tick in 20 ns they fill up after 11,000 years. [Account.3]
-#[derive(Clone, Debug, Default, PartialEq, Eq)]
+#[derive(Clone, Debug, PartialEq, Eq)]
 pub struct Account {
     pub control: u32,
-    /// Inputs 9–12 keep factor 0.
+    /// Merged values; inputs 9–12 keep factor 0. [Bytes.10b]
     pub factors: [u32; INPUTS],
+    /// Whether p = n div (F + 1) is owed: since the last load no write without BYTE(3) has changed F. Inputs 9–12 always
+    /// owe it. [Bytes.10a]
+    pub owed: [bool; INPUTS],
     pub inputs: [Input; INPUTS],
     pub accepted_events: u64,
     pub cleared_events: u64,
@@ -39,30 +49,60 @@ pub struct Account {
 }
 
 impl Account {
-    /// [Account.4]
+    /// [Account.4] [Bytes.10a]
     pub fn new() -> Self {
-        Self::default()
+        Account {
+            control: 0,
+            factors: [0; INPUTS],
+            owed: [true; INPUTS],
+            inputs: [Input::default(); INPUTS],
+            accepted_events: 0,
+            cleared_events: 0,
+            loaded_events: 0,
+            tags: 0,
+            undecided: false,
+            words_loaded: Vec::new(),
+            words_finished: Default::default(),
+        }
     }
 
-    /// A register write and its answer. [Account.5]–[Account.9]
+    /// A register write and its answer: the run of all four bytes.
     pub fn write_register(&mut self, number: u32, value: u32, answer: Result<(), u8>) {
+        self.write_bytes(number, 0, 4, value, answer);
+    }
+
+    /// A register write by bytes and its answer. RESET and INITIALIZE load too. [Account.5]–[Account.9] [Bytes.10a]
+    /// [Bytes.10b]
+    pub fn write_bytes(&mut self, number: u32, first: u32, count: u32, value: u32, answer: Result<(), u8>) {
         if answer.is_err() {
             return;
         }
+        let run = bytes_of(first, count);
+        let merged = |kept: u32| value & run | kept & !run;
         match number {
-            Supervisor::CSR if value & csr::INITIALIZE != 0 => *self = Self::new(),
-            Supervisor::CSR if value & csr::RESET != 0 => {
+            Supervisor::CSR if merged(0) & csr::INITIALIZE != 0 => *self = Self::new(),
+            Supervisor::CSR if merged(0) & csr::RESET != 0 => {
                 *self = Account { control: self.control, factors: self.factors, ..Self::new() };
             }
-            Supervisor::CONTROL => self.control = value,
+            Supervisor::CONTROL => self.control = merged(self.control),
             Supervisor::FACTOR_1..=Supervisor::FACTOR_8 => {
                 let input = (number - Supervisor::FACTOR_1) as usize;
-                self.factors[input] = value;
-                self.inputs[input].n = 0;
-                self.inputs[input].p = 0;
+                self.write_factor(input, merged(self.factors[input]), run & 0xFF != 0);
             }
             _ => {}
         }
+    }
+
+    /// Only a load puts n and p to 0 and makes the pass count owed again. [Account.7] [Bytes.10a] [Bytes.10b]
+    fn write_factor(&mut self, input: usize, factor: u32, loads: bool) {
+        if loads {
+            self.inputs[input].n = 0;
+            self.inputs[input].p = 0;
+            self.owed[input] = true;
+        } else if factor != self.factors[input] {
+            self.owed[input] = false;
+        }
+        self.factors[input] = factor;
     }
 
     /// A tick and its answer. [Account.10]–[Account.15]
@@ -134,8 +174,8 @@ impl Account {
             if input.counted != shared_out {
                 return Err(format!("input {number}: {} counted, {shared_out} in the masks", input.counted));
             }
-            // [Account.17]
-            if input.p != input.n / (u64::from(factor) + 1) {
+            // [Account.17] [Bytes.10a]
+            if self.owed[i] && !input.is_settled(factor) {
                 return Err(format!("input {number}, factor {factor}: {} passed of {}", input.p, input.n));
             }
         }
@@ -153,4 +193,16 @@ impl Account {
         }
         Ok(())
     }
+}
+
+impl Default for Account {
+    fn default() -> Self {
+        Self::new()
+    }
+}
+
+/// The bits of a run's bytes, byte by byte, so that the account does not lean on the machine here either. [Bytes.2]
+fn bytes_of(first: u32, count: u32) -> u32 {
+    let is_in = |&byte: &u32| byte >= first && byte - first < count;
+    (0..4).filter(is_in).map(|byte| 0xFF00_0000 >> (8 * byte)).sum()
 }

@@ -1,4 +1,4 @@
-//! Memory write and read.
+//! Memory write and read, in whole words. [Bytes.8]
 
 use super::{csr, decline, Supervisor, MEMORY_WORDS};
 

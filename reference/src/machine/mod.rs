@@ -5,6 +5,7 @@
 //! whether the module is blind), and moves the branches last.
 
 mod branch;
+mod bytes;
 mod cycle;
 mod memory;
 mod names;
@@ -59,6 +60,7 @@ pub enum MainState {
 /// Every field is open, and wide enough that each clause of the spoiled rule can be broken by changing a field, but
 /// for these, whose type leaves nothing to break:
 /// - `roc_enable` and `scalers`: all 32-bit values are taken by their writes [Registers.1] [Registers.3];
+/// - `latches`: each holds what a scaler once did [Bytes.5a];
 /// - the states of main and branches: enums, so only the listed states exist;
 /// - `accept_pattern`: all eight bits are in use [Memory.2];
 /// - `late`, the raised lines and `user_sync_waiting`: plain yes or no, with no clause about them alone;
@@ -68,7 +70,8 @@ pub struct Supervisor {
     pub csr: u32,
     pub control: u32,
     pub factors: [u32; 8],
-    /// What each prescaler still has to count down. Reads give the factor, not this. [Declines.3b]
+    /// What each prescaler still has to count down, above its factor after some writes without BYTE(3). Reads give the
+    /// factor, not this. [Declines.3b] [Bytes.4a]
     pub counters: [u32; 8],
     pub roc_enable: u32,
     pub sync_interval: u32,
@@ -78,6 +81,8 @@ pub struct Supervisor {
     pub t4: Count40,
     pub t5: Count20,
     pub scalers: [u32; 2],
+    /// What each scaler held when it was last read with BYTE(3). [Bytes.5a] [Bytes.5b]
+    pub latches: [u32; 2],
     pub assign: u32,
 
     pub main: MainState,
@@ -157,6 +162,7 @@ impl Supervisor {
             t4: Count40(0),
             t5: Count20(0),
             scalers: [0; 2],
+            latches: [0; 2],
             assign: 0,
             main: MainState::Idle,
             age: 0,
@@ -180,17 +186,17 @@ impl Supervisor {
         }
     }
 
-    /// The spoiled rule, made at every call. [Spoiled.1a]–[Spoiled.1k] [Blind.3]
+    /// The spoiled rule, made at every call. [Spoiled.1a]–[Spoiled.1k] [Blind.3] [Bytes.9]
     #[inline]
     pub fn is_spoiled(&self) -> bool {
         // No early way out here either. Register by register in the record's order, so that the compiler can take
-        // several at once. [Spoiled.1a] [Spoiled.1b]
+        // several at once. A counter has the width of its factor. [Spoiled.1a] [Spoiled.1b] [Bytes.9]
         let mut stray = (self.csr & !csr::STORED) | (self.control & !control::BITS);
-        for factor in &self.factors[..4] {
-            stray |= factor & !Self::WIDE_FACTOR;
+        for (factor, counter) in self.factors[..4].iter().zip(&self.counters[..4]) {
+            stray |= (factor & !Self::WIDE_FACTOR) | (counter & !Self::WIDE_FACTOR);
         }
-        for factor in &self.factors[4..] {
-            stray |= factor & !Self::NARROW_FACTOR;
+        for (factor, counter) in self.factors[4..].iter().zip(&self.counters[4..]) {
+            stray |= (factor & !Self::NARROW_FACTOR) | (counter & !Self::NARROW_FACTOR);
         }
         stray |= (self.sync_interval & !0xFFFF)
             | (self.t1.0 & !0xFFFF)
@@ -199,9 +205,6 @@ impl Supervisor {
             | (self.t4.0 & !0xFFFF)
             | (self.t5.0 & !0xFF)
             | u32::from(self.code & !word::CODE);
-        // [Spoiled.1e]
-        let above =
-            self.counters.iter().zip(&self.factors).fold(false, |any, (counter, factor)| any | (counter > factor));
         let over = (self.sync_count > Self::SYNC_COUNT_LIMIT) // [Spoiled.1h]
             | (self.age > Self::AGE_LIMIT) // [Spoiled.1i]
             | (self.clear_count > Self::CLEAR_COUNT_LIMIT) // [Spoiled.1j]
@@ -214,7 +217,7 @@ impl Supervisor {
         let may_be_full = self.user_sync_waiting | matches!(self.main, MainState::Space | MainState::SyncHold);
         let most = Self::DEPTH - u8::from(!may_be_full);
         let branches = self.branches.iter().fold(false, |any, branch| any | branch.is_spoiled(most));
-        (stray != 0) | above | over | !is_listed(self.assign) | main | branches
+        (stray != 0) | over | !is_listed(self.assign) | main | branches
     }
 
     /// The decline that register and memory calls test first. [Declines.2a] [Declines.3a] [Declines.4a]

@@ -14,6 +14,8 @@ pub mod decline {
     pub const VALUE: u8 = 5;
     /// Console only: a line of other form. [Console.5]
     pub const FORM: u8 = 6;
+    /// A run of bytes that is empty or leaves the four; never from a plain call. [Bytes.11]
+    pub const RUN: u8 = 7;
 }
 
 /// Bits of the CSR. [CSR.1] [CSR.2] [CSRWrite.1]

@@ -1,5 +1,6 @@
-//! Register write and read, and what a write to the CSR does.
+//! Register write and read, whole and by bytes, and what a write to the CSR does.
 
+use super::bytes::Run;
 use super::{control, csr, decline, Branch, Count20, Count40, Supervisor};
 
 /// The bits that a write to each register takes. [Registers.1] [Widths.1] [Widths.2] [Control.1] [Declines.2d]
@@ -43,26 +44,41 @@ const fn is_taken(number: u32, value: u32) -> bool {
 }
 
 impl Supervisor {
-    /// Writes a register. Declines 1, 3, 4, 5 in this order. [Declines.2a]–[Declines.2d]
+    /// Writes a register: the run of all four bytes, which is never declined with 7. [Bytes.2]
     pub fn write_register(&mut self, number: u32, value: u32) -> Result<(), u8> {
+        self.write_bytes(number, 0, 4, value)
+    }
+
+    /// Writes the bytes of a register from `first` on, `count` of them. The value's bytes stand in place, those outside
+    /// the run are ignored. Declines 1, 3, 7, 4, 5 in this order. [Declines.2a]–[Declines.2d] [Bytes.7] [Bytes.11]
+    pub fn write_bytes(&mut self, number: u32, first: u32, count: u32, value: u32) -> Result<(), u8> {
         self.not_spoiled()?;
         if !is_writable(number) {
             return Err(decline::NUMBER);
         }
+        let run = Run::new(first, count)?;
         if matches!(number, Self::CONTROL..=Self::T5) && self.is_active() {
             self.csr |= csr::WRITE_ERROR;
             return Err(decline::ACTIVE);
         }
+        let value = self.merged(number, run, value);
         if !is_taken(number, value) {
             return Err(decline::VALUE);
         }
+        self.store(number, run, value);
+        Ok(())
+    }
+
+    /// A write carried out, with the merged value.
+    fn store(&mut self, number: u32, run: Run, value: u32) {
         match number {
             Self::CSR => self.write_csr(value),
             Self::CONTROL => self.control = value,
             Self::FACTOR_1..=Self::FACTOR_8 => {
                 let input = (number - Self::FACTOR_1) as usize;
                 self.factors[input] = value;
-                self.counters[input] = value; // [Registers.2]
+                // [Registers.2] [Bytes.4a]
+                self.counters[input] = if run.holds_byte_3() { value } else { self.counters[input] };
             }
             Self::ROC_ENABLE => self.roc_enable = value,
             Self::SYNC_INTERVAL => self.sync_interval = value,
@@ -71,22 +87,37 @@ impl Supervisor {
             Self::T3 => self.t3 = Count40(value),
             Self::T4 => self.t4 = Count40(value),
             Self::T5 => self.t5 = Count20(value),
-            Self::SCALER_0 => self.scalers[0] = 0, // [Registers.3]
-            Self::SCALER_1 => self.scalers[1] = 0,
+            Self::SCALER_0 | Self::SCALER_1 => {
+                let scaler = (number - Self::SCALER_0) as usize;
+                // [Registers.3] [Bytes.4a] [Bytes.6]
+                self.scalers[scaler] = if run.holds_byte_3() { 0 } else { self.scalers[scaler] };
+            }
             _ => self.assign = value,
         }
-        Ok(())
     }
 
-    /// Reads a register. Declines 1, 3. [Declines.3a] [Declines.3b]
+    /// Reads a register: the run of all four bytes. [Bytes.2] [Bytes.5a]
     pub fn read_register(&mut self, number: u32) -> Result<u32, u8> {
+        self.read_bytes(number, 0, 4)
+    }
+
+    /// Reads the bytes of a register from `first` on, `count` of them, in place. Declines 1, 3, 7 in this order.
+    /// [Declines.3a] [Declines.3b] [Bytes.7] [Bytes.11]
+    pub fn read_bytes(&mut self, number: u32, first: u32, count: u32) -> Result<u32, u8> {
         self.not_spoiled()?;
-        self.value_of(number).ok_or(decline::NUMBER)
+        let stored = self.value_of(number).ok_or(decline::NUMBER)?;
+        let run = Run::new(first, count)?;
+        let value = match number {
+            Self::SCALER_0 => self.read_scaler(0, run),
+            Self::SCALER_1 => self.read_scaler(1, run),
+            _ => stored,
+        };
+        Ok(run.cut(value))
     }
 
     /// A register's stored value, and STATE as the record stands; none where there is no such register. [Declines.3b]
     /// [State.8a]
-    fn value_of(&self, number: u32) -> Option<u32> {
+    pub(super) fn value_of(&self, number: u32) -> Option<u32> {
         Some(match number {
             Self::CSR => self.csr,
             Self::CONTROL => self.control,
@@ -127,7 +158,7 @@ impl Supervisor {
     }
 
     /// [CSRWrite.2d] [Main.17] [Blind.3]; the user sync is one of the sequencers that go idle. What the latest tick
-    /// brought and did is kept. [State.3]
+    /// brought and did is kept, and so are the latches. [State.3] [Bytes.5b]
     fn reset(&mut self) {
         self.csr &= !csr::CLEARED_BY_RESET;
         self.counters = self.factors;

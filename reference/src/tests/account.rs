@@ -3,7 +3,7 @@
 use super::*;
 use crate::account::{Account, Input};
 
-const QUIET: Answer = Answer {
+pub(super) const QUIET: Answer = Answer {
     stopped: 0,
     scaled: 0,
     lost: 0,
@@ -16,7 +16,7 @@ const QUIET: Answer = Answer {
 };
 
 /// An account with control and factor 1 kept.
-fn kept(control: u32, factor: u32) -> Account {
+pub(super) fn kept(control: u32, factor: u32) -> Account {
     let mut account = Account::new();
     account.write_register(Supervisor::CONTROL, control, Ok(()));
     account.write_register(Supervisor::FACTOR_1, factor, Ok(()));
@@ -28,6 +28,8 @@ fn at_the_start() {
     let account = Account::new();
     assert_eq!(account.check(&Supervisor::fresh()), Ok(())); // [Account.4]
     assert_eq!((account.control, account.factors, account.undecided), (0, [0; 12], false));
+    assert_eq!(account.owed, [true; 12]); // [Bytes.10a]
+    assert_eq!(account, Account::default());
 }
 
 #[test]

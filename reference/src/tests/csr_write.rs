@@ -109,6 +109,8 @@ fn busy() -> Unit {
     assert_eq!((unit.record.main, unit.record.sync_count, unit.record.scalers), (MainState::Wait3, 2, [2, 3]));
     assert_eq!((unit.record.counters[0], unit.record.counters[7]), (5, 1));
     unit.record.blind = 2; // no list of calls has it in a cycle
+    assert_eq!((unit.read(Supervisor::SCALER_0), unit.read(Supervisor::SCALER_1)), (2, 3));
+    assert_eq!(unit.record.latches, [2, 3]);
     unit
 }
 
@@ -130,6 +132,7 @@ fn reset_in_full() {
         t3: before.t3,
         t4: before.t4,
         t5: before.t5,
+        latches: before.latches, // [Bytes.5b]
         assign: before.assign,
         kept_lines: before.kept_lines,
         latched: before.latched,

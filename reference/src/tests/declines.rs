@@ -179,7 +179,7 @@ fn register_read_1_and_3() {
         for number in 0..=20 {
             let mut record = way.clone();
             assert!(record.read_register(number).is_ok(), "reads are not declined while active");
-            assert_eq!(record, way);
+            assert_eq!(record, way, "its scalers are 0 as its latches are");
         }
     }
 }

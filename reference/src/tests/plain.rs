@@ -29,7 +29,7 @@ pub fn is_spoiled(r: &Supervisor) -> bool {
     registers
         || r.code > 0xF
         || (r.main == MainState::Wait2 && r.class != 2 && r.class != 3)
-        || (0..8).any(|i| r.counters[i] > r.factors[i])
+        || (0..8).any(|i| !fits(r.counters[i], if i < 4 { 20 } else { 14 })) // [Bytes.9]
         || branches
         || r.sync_count > 65_534
         || r.age > 131_070

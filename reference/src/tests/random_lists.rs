@@ -38,7 +38,12 @@ impl List {
     fn read(&mut self, number: u32) {
         let before = self.record.clone();
         let answer = self.record.read_register(number);
-        assert_eq!(self.record, before, "a read changes nothing"); // [Declines.3b]
+        let mut latches = before.latches;
+        if let (17 | 18, Ok(count)) = (number, answer) {
+            latches[number as usize - 17] = count; // [Bytes.5a]
+        }
+        let expected = Supervisor { latches, ..before.clone() };
+        assert_eq!(self.record, expected, "a read changes nothing but a scaler's latch"); // [Declines.3b]
         if number == Supervisor::STATE {
             assert_eq!(answer, Ok(plain_state::state(&before))); // [State.8a]
         }
@@ -145,6 +150,8 @@ impl List {
         }
         assert!(!self.record.is_spoiled(), "spoiled after call {}", self.calls);
         assert_eq!(self.account.check(&self.record), Ok(()), "after call {}", self.calls);
+        assert_eq!(self.account.owed, [true; 12], "every factor write here has BYTE(3)");
+        // [Bytes.10a]
     }
 }
 
@@ -193,7 +200,7 @@ fn the_account_holds_after_each_of_many_calls() {
         }
         match random.below(100) {
             0 => {
-                let number = random.below(24);
+                let number = if random.flip() { random.below(24) } else { 17 + random.below(2) };
                 list.read(number);
                 list.read(Supervisor::STATE);
             }

@@ -4,14 +4,16 @@ use super::random::Random;
 use super::*;
 
 /// A record with values mostly within the spoiled rule, most of them such as no list of calls reaches.
-fn random_record(random: &mut Random) -> Supervisor {
+pub(super) fn random_record(random: &mut Random) -> Supervisor {
     let mut r = Supervisor::fresh();
     r.csr = random.next() & csr::STORED;
     r.control = (random.next() | random.next()) & control::BITS;
     for i in 0..8 {
         let widest = if i < 4 { Supervisor::WIDE_FACTOR } else { Supervisor::NARROW_FACTOR };
         r.factors[i] = if random.once_in(4) { random.next() & widest } else { random.below(4) };
-        r.counters[i] = random.below(r.factors[i] + 1);
+        // Half of them may be above their factors. [Bytes.9]
+        let highest = if random.flip() { r.factors[i] } else { random.pick(&[widest, 6]) };
+        r.counters[i] = random.below(highest + 1);
     }
     r.roc_enable = random.mask();
     r.sync_interval = if random.flip() { random.below(4) } else { random.next() & 0xFFFF };
@@ -20,6 +22,7 @@ fn random_record(random: &mut Random) -> Supervisor {
     r.t5 = Count20(timer() & 0xFF);
     for i in 0..2 {
         r.scalers[i] = if random.once_in(4) { u32::MAX } else { random.next() };
+        r.latches[i] = if random.once_in(4) { r.scalers[i] } else { random.next() };
     }
     r.assign = random.pick(&[0, 1, 8, 9, 12, 13, 14, 15, 0x10, 0x1F, 0x20, 0x2F, 0x30, 0x3F, 0x50, 0x5F]);
     r.main = random.pick(&[
@@ -73,11 +76,12 @@ fn any_record_that_is_not_spoiled_stays_so() {
         assert!(!record.is_spoiled() && !plain::is_spoiled(&record));
         let before = record.clone();
         assert_eq!(record.read_register(Supervisor::STATE), Ok(plain_state::state(&before)), "{before:?}");
-        assert_eq!(record, before); // [Declines.3b]
+        assert_eq!(record, before); // STATE's read latches nothing [Declines.3b] [Bytes.5a]
         if random.once_in(4) {
             let number = random.below(21);
             let value = if random.flip() { random.next() & 0x8FFF_4FFF } else { random.register_value(number) };
             let _ = record.write_register(number, value);
+            let _ = record.read_register(random.below(21)); // a scaler's too [Bytes.5a]
             let _ = record.read_memory(&memory, 0);
         } else {
             memory[random.below(4_096) as usize] = random.memory_word();
@@ -99,7 +103,7 @@ fn the_quick_spoiled_test_is_the_slow_one() {
         let wild = random.next() >> random.below(32);
         let input = random.below(8) as usize;
         let b = random.below(4) as usize;
-        match random.below(23) {
+        match random.below(24) {
             0 => r.csr = wild,
             1 => r.control = wild,
             2 => r.factors[input] = wild,
@@ -122,6 +126,7 @@ fn the_quick_spoiled_test_is_the_slow_one() {
             19 => r.user_sync_waiting = true,
             20 => r.blind = wild,
             21 => r.kept_lines = wild,
+            22 => r.latches = [wild; 2],
             _ => r.main = random.pick(&[MainState::Idle, MainState::Wait2, MainState::Front, MainState::Space]),
         }
         assert_eq!(r.is_spoiled(), plain::is_spoiled(&r), "{r:?}");

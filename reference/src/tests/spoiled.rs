@@ -1,4 +1,4 @@
-//! Each clause of the spoiled rule alone. [Spoiled.1a]–[Spoiled.1k] [Blind.3]
+//! Each clause of the spoiled rule alone. [Spoiled.1a]–[Spoiled.1k] [Blind.3] [Bytes.9]
 
 use super::*;
 
@@ -90,6 +90,7 @@ fn assign_codes() {
 fn registers_that_take_any_value() {
     leaves(|r| r.roc_enable = u32::MAX);
     leaves(|r| r.scalers = [u32::MAX; 2]);
+    leaves(|r| r.latches = [u32::MAX; 2]); // [Bytes.5a]
 }
 
 #[test]
@@ -130,20 +131,18 @@ fn strobe_without_a_word() {
 }
 
 #[test]
-fn counter_above_factor() {
+fn counter_width() {
     for input in 0..8 {
-        spoils(|r| r.counters[input] = 1); // [Spoiled.1e]
-        spoils(|r| r.counters[input] = u32::MAX);
-        for (counter, factor) in [(5, 6), (6, 6), (0, 6), (0, 0)] {
-            leaves(|r| {
-                r.counters[input] = counter;
-                r.factors[input] = factor;
-            });
+        let width = if input < 4 { 20 } else { 14 }; // [Bytes.9] [Widths.1]
+        for bit in 0..32 {
+            expect(bit >= width, |r| r.counters[input] = 1 << bit);
         }
-        spoils(|r| {
-            r.counters[input] = 7;
-            r.factors[input] = 6;
-        });
+        // Above its factor, at it, and below: only the width counts.
+        for (counter, factor) in [(7, 6), (1, 0), (5, 6), (6, 6), (0, 6), ((1 << width) - 1, 0)] {
+            leaves(|r| (r.counters[input], r.factors[input]) = (counter, factor));
+        }
+        spoils(|r| (r.counters[input], r.factors[input]) = (1 << width, (1 << width) - 1));
+        spoils(|r| r.counters[input] = u32::MAX);
     }
 }
 

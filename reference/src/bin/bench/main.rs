@@ -98,7 +98,8 @@ fn model_ticks(n: u64, memory: &[u16], table: &[u64]) -> u64 {
     sum = fold(sum, u64::from(record.scalers[0]) | u64::from(record.scalers[1]) << 32);
     sum = fold(sum, u64::from(record.csr) | u64::from(record.sync_count) << 32);
     let latest = u64::from(record.kept_lines) | u64::from(record.latched) << 8;
-    fold(sum, latest | u64::from(record.kept_acknowledges) << 32)
+    sum = fold(sum, latest | u64::from(record.kept_acknowledges) << 32);
+    fold(sum, u64::from(record.latches[0]) | u64::from(record.latches[1]) << 32)
 }
 
 // ---- measuring
@@ -144,7 +145,7 @@ mod layout {
     #[repr(C)]
     pub struct Latest(u32, bool);
     #[repr(C)]
-    pub struct Core([[u32; 8]; 2], u32, u32, [u32; 3], Main, Timers, [u16; 2], [u8; 2], Latest);
+    pub struct Core([[u32; 8]; 2], u32, u32, [u32; 3], [u32; 2], Main, Timers, [u16; 2], [u8; 2], Latest);
     #[repr(C)]
     pub struct Supervisor(Readout, Core);
 }

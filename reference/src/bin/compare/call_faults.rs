@@ -28,11 +28,6 @@ const CALL_FAULTS: &[Fault] = &[
         "0",
     ),
     fault(
-        "spoiled: a counter may be one above its factor",
-        "(counter > factor)",
-        "(*counter > factor.saturating_add(1))",
-    ),
-    fault(
         "spoiled: a sync count of 65,535 passes",
         "(self.sync_count > Self::SYNC_COUNT_LIMIT)",
         "(self.sync_count > 65_535)",
@@ -114,13 +109,13 @@ const CALL_FAULTS: &[Fault] = &[
     ),
     fault(
         "a factor's write leaves its counter at 0",
-        "self.counters[input] = value",
-        "self.counters[input] = 0",
+        "if run.holds_byte_3() { value } else { self.counters[input] }",
+        "0",
     ),
     fault(
         "a write to register 17 stores the value",
-        "self.scalers[0] = 0",
-        "self.scalers[0] = value",
+        "if run.holds_byte_3() { 0 } else { self.scalers[scaler] }",
+        "if scaler == 0 { value } else { 0 }",
     ),
     fault(
         "memory: a longer slice is taken",

@@ -5,28 +5,30 @@ use crate::random::Random;
 
 /// One change.
 pub fn change(random: &mut Random, n: &mut Record) {
-    match random.below(33) {
-        which @ 0..=10 => change_setting(random, n, which),
-        which @ 11..=23 => change_sequencer(random, n, which - 11),
-        which @ 24..=29 => change_branch(random, n, which - 24),
+    match random.below(34) {
+        which @ 0..=11 => change_setting(random, n, which),
+        which @ 12..=24 => change_sequencer(random, n, which - 12),
+        which @ 25..=30 => change_branch(random, n, which - 25),
         _ => change_kept(random, n),
     }
 }
 
-/// Registers 0–19 and the counters.
+/// Registers 0–19, the counters and the latches.
 fn change_setting(random: &mut Random, n: &mut Record, which: u32) {
     let i = random.below(8) as usize;
+    let limit = if i < 4 { 0xF_FFFF } else { 0x3FFF };
     match which {
         0 => n[0] ^= 1 << random.below(32),
         1 => n[1] ^= 1 << random.below(32),
         2 => {
-            let limit = if i < 4 { 0xF_FFFF } else { 0x3FFF };
             n[2 + i] = random.pick(&[limit, limit + 1, u64::from(u32::MAX), n[COUNTERS + i].saturating_sub(1)]);
             if random.once_in(2) {
                 n[COUNTERS + i] = n[COUNTERS + i].min(n[2 + i]);
             }
         }
-        3 | 4 => n[COUNTERS + i] = random.pick(&[n[2 + i], n[2 + i] + 1, 0, 1, u64::from(u32::MAX)]) & 0xFFFF_FFFF,
+        // At its factor, above it within the width, and beyond the width. [Bytes.9]
+        3 => n[COUNTERS + i] = random.pick(&[n[2 + i], n[2 + i] + 1, 0, 1, 2]) & 0xFFFF_FFFF,
+        4 => n[COUNTERS + i] = random.pick(&[limit - 1, limit, limit + 1, u64::from(u32::MAX)]),
         5 => {
             let near = [0x0F, 0x10, 0x3F, 0x40, 0x4F, 0x50, 0x5F, 0x60, 0xFF, 0x15F, u64::from(u32::MAX)];
             n[19] = random.pick(&near);
@@ -34,7 +36,14 @@ fn change_setting(random: &mut Random, n: &mut Record, which: u32) {
         6 => n[11] = random.pick(&[0, 1, 2, 65_534, 65_535]),
         7 => n[12 + i % 4] = random.pick(&[0, 1, 3, 0x7FFF, 0x8000, 0xFFFF]),
         8 => n[16] = random.pick(&[0, 1, 255]),
-        9 => n[17 + i % 2] = random.pick(&[0, 0xFFFF_FFFE, 0xFFFF_FFFF]),
+        9 => {
+            n[17 + i % 2] = random.pick(&[0, 0xFFFF_FFFE, 0xFFFF_FFFF]);
+            n[LATCH + i % 2] = n[17 + i % 2];
+        }
+        10 => {
+            n[17 + i % 2] = random.next().into();
+            n[LATCH + i / 2 % 2] = random.next().into();
+        }
         _ => n[10] = random.next().into(),
     }
 }

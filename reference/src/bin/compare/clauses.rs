@@ -3,7 +3,7 @@
 use crate::numbers::*;
 
 /// The clauses of the spoiled rule that a record of both machines can break.
-pub const CLAUSES: [&str; 17] = [
+pub const CLAUSES: [&str; 18] = [
     "CSR bit",
     "control bit",
     "factor of inputs 1-4",
@@ -12,7 +12,8 @@ pub const CLAUSES: [&str; 17] = [
     "stored code over Fh",
     "Wait 2 in another class",
     "Strobe without a word",
-    "counter above its factor",
+    "counter of inputs 1-4 beyond its width",
+    "counter of inputs 5-8 beyond its width",
     "word over 3Fh",
     "queue above 8",
     "queue above 7",
@@ -42,7 +43,8 @@ pub fn broken_clauses(n: &Record) -> [bool; CLAUSES.len()] {
         n[CODE] > 15,
         n[STATE] == 2 && n[CLASS] != 2 && n[CLASS] != 3,
         any(&|_, used, phase| phase == 1 && used == 0),
-        (0..8).any(|i| n[COUNTERS + i] > n[2 + i]),
+        (0..4).any(|i| n[COUNTERS + i] > 0xF_FFFF),
+        (4..8).any(|i| n[COUNTERS + i] > 0x3FFF),
         any(&|words, used, _| words.iter().take(used as usize).any(|&word| word > 0x3F)),
         any(&|_, used, _| used > 8),
         any(&|_, used, _| used == 8) && !loaded,

@@ -1,9 +1,11 @@
 //! What the compared calls met: every state, decline, outcome, assignment and clause of the spoiled rule, the blind
-//! time and STATE.
+//! time, STATE and byte-wise access.
 
 use crate::blind_counts::{self, BlindCounts};
+use crate::byte_counts::ByteCounts;
 use crate::clauses::{broken_clauses, CLAUSES};
 use crate::numbers::*;
+use crate::owed_counts::OwedCounts;
 use crate::state_counts::StateCounts;
 use reference::machine::csr;
 
@@ -38,7 +40,7 @@ pub struct Counts {
     pub lists: u64,
     pub accounts: u64,
     pub whole: u64,
-    replies: [[u64; 6]; 6],
+    replies: [[u64; 8]; KINDS.len()],
     moves: [[u64; 8]; 8],
     user_waits: u64,
     outcomes: [u64; 7],
@@ -50,6 +52,8 @@ pub struct Counts {
     resets: [[u64; 9]; 2],
     blind: BlindCounts,
     state: StateCounts,
+    bytes: ByteCounts,
+    pub owed: OwedCounts,
     clauses: [[u64; 2]; CLAUSES.len()],
 }
 
@@ -60,7 +64,7 @@ impl Counts {
             lists: 0,
             accounts: 0,
             whole: 0,
-            replies: [[0; 6]; 6],
+            replies: [[0; 8]; KINDS.len()],
             moves: [[0; 8]; 8],
             user_waits: 0,
             outcomes: [0; 7],
@@ -72,6 +76,8 @@ impl Counts {
             resets: [[0; 9]; 2],
             blind: BlindCounts::new(),
             state: StateCounts::new(),
+            bytes: ByteCounts::new(),
+            owed: OwedCounts::new(),
             clauses: [[0; 2]; CLAUSES.len()],
         }
     }
@@ -82,6 +88,7 @@ impl Counts {
         self.replies[call[0] as usize][reply[0] as usize] += 1;
         self.blind.add(before, call, reply, after);
         self.state.add(before, call, reply, after);
+        self.bytes.add(before, call, reply, after);
         if reply[0] == 1 {
             let broken = broken_clauses(before);
             let together = usize::from(broken.iter().filter(|&&is| is).count() > 1);
@@ -180,12 +187,14 @@ impl Counts {
         };
         println!("Replies");
         for (kind, name) in KINDS.iter().enumerate() {
-            for decline in 0..6 {
-                let listed = match kind {
-                    0 => [0, 1, 3, 4, 5].contains(&decline),
-                    1 => [0, 1, 3].contains(&decline),
-                    2 | 3 => decline < 5,
-                    4 => [0, 1, 2, 5].contains(&decline),
+            for decline in 0..8 {
+                let listed = match kind as u64 {
+                    WRITE_REGISTER => [0, 1, 3, 4, 5].contains(&decline),
+                    READ_REGISTER => [0, 1, 3].contains(&decline),
+                    WRITE_MEMORY | READ_MEMORY => decline < 5,
+                    TICK => [0, 1, 2, 5].contains(&decline),
+                    WRITE_BYTES => [0, 1, 3, 4, 5, 7].contains(&decline),
+                    READ_BYTES => [0, 1, 3, 7].contains(&decline),
                     _ => decline == 0,
                 };
                 if listed {
@@ -253,6 +262,10 @@ impl Counts {
         }
         println!("Reads of STATE");
         for (name, count) in self.state.rows() {
+            row(name, count);
+        }
+        println!("Byte-wise access");
+        for (name, count) in self.bytes.rows().into_iter().chain(self.owed.rows()) {
             row(name, count);
         }
         println!("Clauses of the spoiled rule");

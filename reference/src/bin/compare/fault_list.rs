@@ -18,8 +18,11 @@ include!("tick_faults.rs");
 include!("request_faults.rs");
 include!("state_faults.rs");
 include!("kept_faults.rs");
+include!("byte_faults.rs");
+include!("latch_faults.rs");
 
 /// All of them, in order.
 fn faults() -> impl Iterator<Item = &'static Fault> {
-    CALL_FAULTS.iter().chain(TICK_FAULTS).chain(REQUEST_FAULTS).chain(STATE_FAULTS).chain(KEPT_FAULTS)
+    let lists = [CALL_FAULTS, TICK_FAULTS, REQUEST_FAULTS, STATE_FAULTS, KEPT_FAULTS, BYTE_FAULTS, LATCH_FAULTS];
+    lists.into_iter().flatten()
 }

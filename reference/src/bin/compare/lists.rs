@@ -1,6 +1,7 @@
 //! Random lists of calls, made while they run: what comes next depends on where the record stands, so that lists go
 //! deep. Records are changed between calls too, so that the spoiled rule and records that no list reaches are met.
 
+use crate::byte_calls;
 use crate::changes::change;
 use crate::numbers::*;
 use crate::profile::Profile;
@@ -98,6 +99,7 @@ impl Maker {
         let call = match self.random.below(8) {
             0 | 1 => READ_STATE,
             2..=4 => self.tick(record),
+            5 => byte_calls::call(&mut self.random),
             _ => self.other(record),
         };
         self.lent(call)
@@ -109,6 +111,14 @@ impl Maker {
         let (factor, value) = (2 + random.below(8), random.below(3));
         self.queued.push([WRITE_REGISTER, factor.into(), value.into(), 0]);
         [WRITE_REGISTER, 0, blind_value(random).into(), 0]
+    }
+
+    /// A stretch of calls on one register; gives the first.
+    fn stretch(&mut self) -> Call {
+        let mut calls = byte_calls::stretch(&mut self.random).into_iter();
+        let first = calls.next().expect("it is never empty");
+        self.queued.extend(calls.rev());
+        first
     }
 
     fn lent(&mut self, call: Call) -> Step {
@@ -123,7 +133,7 @@ impl Maker {
     /// A call that is no tick.
     fn other(&mut self, record: &Record) -> Call {
         let random = &mut self.random;
-        match random.below(16) {
+        match random.below(24) {
             0..=4 => [WRITE_REGISTER, 0, csr_value(random).into(), 0],
             5..=8 => {
                 let number = number(random);
@@ -135,6 +145,8 @@ impl Maker {
                 [WRITE_MEMORY, place(random).into(), word(random, habit).into(), 0]
             }
             13 | 14 => [READ_MEMORY, place(random).into(), 0, 0],
+            15..=21 => byte_calls::call(random),
+            22 if random.once_in(3) => self.stretch(),
             _ if random.once_in(12) => [MAKE_FRESH, 0, 0, 0],
             _ => self.tick(record),
         }

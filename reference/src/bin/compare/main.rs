@@ -2,6 +2,8 @@
 //! the memory. See docs/PERFORMANCE.md for what is covered.
 
 mod blind_counts;
+mod byte_calls;
+mod byte_counts;
 mod changes;
 mod clauses;
 mod counts;
@@ -13,6 +15,7 @@ mod faulty {
 mod lists;
 mod models;
 mod numbers;
+mod owed_counts;
 mod pair;
 mod profile;
 mod random;
@@ -49,7 +52,7 @@ fn run_list<M: Machine>(seed: u64, counts: &mut Counts) -> Result<(), Difference
     let mut replies = Vec::with_capacity(maker.length);
     for _ in 0..maker.length {
         let step = maker.step(&pair.proved);
-        let before = pair.proved;
+        let (before, owed) = (pair.proved, owed_counts::owed(&pair));
         steps.push(step);
         let step = steps.last().expect("one was pushed");
         match pair.step::<M>(step) {
@@ -58,6 +61,7 @@ fn run_list<M: Machine>(seed: u64, counts: &mut Counts) -> Result<(), Difference
             Ok(Some(reply)) => {
                 let Step::Call { call, .. } = *step else { continue };
                 counts.add(&before, call, &reply, &pair.proved);
+                counts.owed.add(call, &reply, owed, &pair);
                 counts.accounts += u64::from(pair.account.is_some());
                 replies.push(reply);
             }
@@ -132,6 +136,8 @@ fn print_difference(difference: &Difference) {
                 match *kind {
                     WRITE_REGISTER => println!("  {name} {a:02X} {b:08X}"),
                     READ_REGISTER => println!("  {name} {a:02X}"),
+                    WRITE_BYTES => println!("  {name} {a:02X} {b:08X}, first and count {:X?}", unpacked(*c)),
+                    READ_BYTES => println!("  {name} {a:02X}, first and count {:X?}", unpacked(*c)),
                     WRITE_MEMORY => println!("  {name} {a:03X} {b:04X} ({} words)", words.len()),
                     READ_MEMORY => println!("  {name} {a:03X} ({} words)", words.len()),
                     TICK => println!(

@@ -32,6 +32,7 @@ macro_rules! model {
                     t4: Count40(word(15)),
                     t5: Count20(word(16)),
                     scalers: [word(17), word(18)],
+                    latches: [word(LATCH), word(LATCH + 1)],
                     assign: word(19),
                     main: [
                         MainState::Idle,
@@ -100,6 +101,8 @@ macro_rules! model {
                 n[KEPT_LINES] = s.kept_lines.into();
                 n[LATCHED] = s.latched.into();
                 n[KEPT_ACKNOWLEDGES] = s.kept_acknowledges.into();
+                n[LATCH] = s.latches[0].into();
+                n[LATCH + 1] = s.latches[1].into();
                 for (b, branch) in s.branches.iter().enumerate() {
                     n[BRANCH + 3 * b] = u64::from_le_bytes(branch.words);
                     n[BRANCH + 3 * b + 1] = branch.used.into();
@@ -136,6 +139,7 @@ macro_rules! model {
         impl Machine for $name {
             fn call(record: &mut Record, memory: &mut [u16], call: Call) -> Reply {
                 let [kind, a, b, c] = call;
+                let (first, count) = unpacked(c);
                 let (a, b, c) = (a as u32, b as u32, c as u32);
                 let mut s = Self::record(record);
                 let plain = |decline: u8, value: u32| [decline.into(), value.into(), 0, 0, 0, 0, 0, 0];
@@ -145,6 +149,8 @@ macro_rules! model {
                     WRITE_MEMORY => s.write_memory(memory, a, b as u16).map(|()| plain(0, 0)),
                     READ_MEMORY => s.read_memory(memory, a).map(|value| plain(0, value.into())),
                     TICK => s.tick(memory, a, b, c).map(|answer| Self::answer(&answer)),
+                    WRITE_BYTES => s.write_bytes(a, first, count, b).map(|()| plain(0, 0)),
+                    READ_BYTES => s.read_bytes(a, first, count).map(|value| plain(0, value)),
                     _ => {
                         s = $machine::Supervisor::fresh();
                         Ok(plain(0, 0))

@@ -1,8 +1,8 @@
 //! The machines as the comparison sees them: records, calls and replies are numbers, laid out as in crates/numbers and crates/harness.
 
-/// Registers 0–19, counters, main, sync count, user sync, three numbers for each branch, the blind count, then what is
-/// kept of the latest tick.
-pub const RECORD: usize = 54;
+/// Registers 0–19, counters, main, sync count, user sync, three numbers for each branch, the blind count, what is kept
+/// of the latest tick, then the latches of the two scalers.
+pub const RECORD: usize = 56;
 pub const COUNTERS: usize = 20;
 pub const STATE: usize = 28;
 pub const AGE: usize = 29;
@@ -24,6 +24,8 @@ pub const KEPT_LINES: usize = 51;
 pub const LATCHED: usize = 52;
 /// A word of 32 bits too.
 pub const KEPT_ACKNOWLEDGES: usize = 53;
+/// Of scaler 0; that of scaler 1 follows. Words of 32 bits.
+pub const LATCH: usize = 54;
 
 pub const FIELDS: [&str; RECORD] = [
     "CSR",
@@ -80,6 +82,8 @@ pub const FIELDS: [&str; RECORD] = [
     "kept lines",
     "latched",
     "kept acknowledges",
+    "latch 0",
+    "latch 1",
 ];
 
 pub type Record = [u64; RECORD];
@@ -93,7 +97,30 @@ pub const WRITE_MEMORY: u64 = 2;
 pub const READ_MEMORY: u64 = 3;
 pub const TICK: u64 = 4;
 pub const MAKE_FRESH: u64 = 5;
-pub const KINDS: [&str; 6] = ["register write", "register read", "memory write", "memory read", "tick", "fresh"];
+/// Number, value, run.
+pub const WRITE_BYTES: u64 = 6;
+/// Number, 0, run.
+pub const READ_BYTES: u64 = 7;
+pub const KINDS: [&str; 8] = [
+    "register write",
+    "register read",
+    "memory write",
+    "memory read",
+    "tick",
+    "fresh",
+    "register write by bytes",
+    "register read by bytes",
+];
+
+/// A run of bytes in one number: the first byte, and from bit 32 on the count.
+pub fn packed(first: u32, count: u32) -> u64 {
+    u64::from(first) | u64::from(count) << 32
+}
+
+/// First byte and count.
+pub fn unpacked(run: u64) -> (u32, u32) {
+    (run as u32, (run >> 32) as u32)
+}
 
 /// 0 or the decline; value read; masks by two; accepted and lines out; outcome; finished; shown.
 pub type Reply = [u64; 8];

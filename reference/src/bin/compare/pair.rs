@@ -13,6 +13,8 @@ pub struct Pair {
     model_memories: Vec<Vec<u16>>,
     /// From fresh, as long as only calls change the record.
     pub account: Option<Account>,
+    /// A factor write without BYTE(3) was carried out in the account's time.
+    lacking: bool,
 }
 
 impl Pair {
@@ -23,6 +25,7 @@ impl Pair {
             memories: memories.to_vec(),
             model_memories: memories.to_vec(),
             account: Some(Account::new()),
+            lacking: false,
         }
     }
 
@@ -55,8 +58,8 @@ impl Pair {
         if self.memories[memory] != self.model_memories[memory] {
             return Err("memories".into());
         }
-        // [Declines.1b] a record that is spoiled stays as it is, and so does the record of a read that is carried out.
-        if reply[0] == 1 && self.proved != before {
+        // [Declines.1b] a declined call leaves the record, but for the status bit of decline 4.
+        if !matches!(reply[0], 0 | 4) && self.proved != before {
             return Err("a declined call changed the record on both sides".into());
         }
         self.keep_account(call, &reply)?;
@@ -68,9 +71,18 @@ impl Pair {
         let done = if reply[0] == 0 { Ok(()) } else { Err(reply[0] as u8) };
         match call[0] {
             WRITE_REGISTER => account.write_register(call[1] as u32, call[2] as u32, done),
+            WRITE_BYTES => {
+                let (first, count) = unpacked(call[3]);
+                account.write_bytes(call[1] as u32, first, count, call[2] as u32, done);
+                self.lacking |= reply[0] == 0 && (2..=9).contains(&call[1]) && first + count < 4;
+            }
             TICK => account.tick(call[1] as u32, call[2] as u32, &answer_of(reply)),
-            MAKE_FRESH => *account = Account::new(),
+            MAKE_FRESH => (*account, self.lacking) = (Account::new(), false),
             _ => {}
+        }
+        // [Bytes.10a]
+        if !self.lacking && account.owed.contains(&false) {
+            return Err("the account: a pass count is not owed, and every factor write had BYTE(3)".into());
         }
         account.check(&Model::of(&self.proved)).map_err(|says| format!("the account: {says}"))
     }

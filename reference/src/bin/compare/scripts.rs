@@ -32,6 +32,7 @@ fn script(seed: u64) -> Vec<u8> {
             WRITE_MEMORY => format!("M\t{:03X}\t{b:04X}", a & 0xFFF),
             READ_MEMORY => format!("V\t{:03X}", a & 0xFFF),
             TICK => format!("T\t{:03X}\t{:02X}\t{c:08X}", a & 0xFFF, b & 0xFF),
+            // The console makes plain calls only.
             _ => continue,
         };
         let cut = match kind {

@@ -97,7 +97,7 @@ impl StateCounts {
             (READ_REGISTER, 1) if is_state => self.events[3] += 1,
             (WRITE_REGISTER, 1) if is_state => self.events[2] += 1,
             (WRITE_REGISTER, _) if is_state => self.events[usize::from(!is_active(before))] += 1,
-            (WRITE_REGISTER, 0) if call[1] == 10 => self.others |= before[10] != after[10],
+            (WRITE_REGISTER | WRITE_BYTES, 0) if call[1] == 10 => self.others |= before[10] != after[10],
             (TICK, 0) => self.others = false,
             _ => {}
         }
