@@ -123,7 +123,8 @@ CounterBeyondWidthIsSpoiled =
 
 -- [Bytes.10a] After every list of calls from a fresh supervisor, the pass count of an input is n div (F + 1), as document 01 has
 -- it, if no ask of the list is a write of its factor without BYTE(3), not even a refused one; and whatever the list, if no such
--- ask comes after a load that was carried out. So demand 3's proviso takes nothing more than the paper does.
+-- ask comes after a load that was carried out. By the account's rule such a write that leaves the factor as it was keeps it
+-- owed too (stillOwed); the table below has one.
 abbrev pub PassCountOwed : Type 0
 PassCountOwed = PassCountIsOwed moduleBranches
 

@@ -31,6 +31,8 @@ use Rattle.declines.specs.Answers.{Reply, declined, done, value, ticked}
 use Rattle.declines.specs.Runs.{Ask, writeRegister, readRegister, writeMemory, readMemory, tick}
 use Rattle.declines.specs.Runs.{Call, recordAfter, everyAsk}
 
+-- ---- registers by what a call by a run of bytes does with them
+
 -- [Bytes.7] 0 outside the run
 abbrev pub cutReply : Run → Reply → Reply
 cutReply run (value v) = value (cutOf run v)
@@ -38,6 +40,7 @@ cutReply run (declined n) = declined n
 cutReply run done = done
 cutReply run (ticked y) = ticked y
 
+-- [Bytes.5a] registers 17 and 18
 abbrev pub isScaler : Register → Bool
 isScaler Csr = false
 isScaler (Setting r) = false
@@ -72,6 +75,7 @@ scalerNumber n = 17 + n
 abbrev pub withLatched : (n : ℕ) → Supervisor → Supervisor
 withLatched n s = s ▷ onCore (withScalers (latchedOf n (s .core .scalers)))
 
+-- for what a read leaves: all else
 abbrev pub withoutLatches : Supervisor → Supervisor
 withoutLatches s = s ▷ onCore (withScalers (s .core .scalers ▷ withLatch0 0 ▷ withLatch1 0))
 
