@@ -4,8 +4,8 @@
     tools/impostors.py           rewrites the list
     tools/impostors.py --check   exits 1 if the list is not what the edits say
 
-Refused, with or without --check: a page of docs/ that names an edit which is not there; an edit whose old text does not stand
-once in its file.
+Refused, with or without --check: a page of docs/ that names an edit which is not there; an edit of which an old text does not
+stand once in its file; one that names a definition by its full name where there is none, and so would be refused for that.
 """
 import re
 import sys
@@ -14,6 +14,7 @@ from page import TOP, asks_check, keep, read
 
 PAGE = TOP / "docs" / "IMPOSTORS.md"
 HEAD = "## Every edit\n"
+FULL_NAME = re.compile(r"Rattle·(\w+)\.specs\.([A-Z]\w*)\.([A-Za-z][\w′]*)")
 
 
 def edits():
@@ -37,10 +38,18 @@ def missing(text, listed):
 
 
 def fits(text, crate):
-    """Whether the old text of an edit stands once in the file that it names."""
-    said = dict(line.split(": ", 1) for line in text.splitlines() if re.match("(file|old|new): ", line))
-    path = crate / said.get("file", "")
-    return path.is_file() and read(path).count(said.get("old", "")) == 1
+    """Whether each old text of an edit stands once in the file that it names."""
+    path = crate / "".join(re.findall("(?m)^file: (.*)$", text))
+    olds = re.findall("(?m)^old: (.*)$", text)
+    return path.is_file() and bool(olds) and all(read(path).count(old) == 1 for old in olds)
+
+
+def unknown(text):
+    """Full names of definitions that an edit uses and that are not there."""
+    for crate, file, name in FULL_NAME.findall(text):
+        path = TOP / "crates" / crate / "specs" / f"{file}.antt"
+        if not path.is_file() or not re.search(rf"\bpub {name} :", read(path)):
+            yield f"{crate}/specs/{file}, {name}"
 
 
 def main():
@@ -49,8 +58,10 @@ def main():
     text = page(listed)
     faults = [f"no such edit: {name}" for name in missing(text, listed)]
     for path in sorted(TOP.glob("crates/*/must-fail/*.edit")):
-        if not fits(read(path), path.parent.parent):
-            faults.append(f"{path.relative_to(TOP)}: its old text does not stand once in its file")
+        text_of, where = read(path), path.relative_to(TOP)
+        if not fits(text_of, path.parent.parent):
+            faults.append(f"{where}: an old text does not stand once in its file")
+        faults += [f"{where}: no such definition: {name}" for name in unknown(text_of)]
     for fault in faults:
         print(fault)
     return max(keep(PAGE, text, check), 1 if faults else 0)

@@ -190,6 +190,15 @@ class Edits(unittest.TestCase):
         ):
             self.assertEqual(impostors.fits(f"# wrong\nfile: {file}\nold: {old}\nnew: x\n", crate), right, old)
 
+    def test_every_old_text(self):
+        two = "# wrong\nfile: src/lib.rt\nold: {}\nnew: x\nold: pub fn bit_at(\nnew: y\n"
+        self.assertTrue(impostors.fits(two.format("pub fn mask8("), TOP / "crates" / "bits"))
+        self.assertFalse(impostors.fits(two.format("no such text"), TOP / "crates" / "bits"))
+
+    def test_unknown(self):
+        self.assertEqual(list(impostors.unknown("new: Rattle.bits.specs.Bits.bitAt w 1")), [])
+        self.assertEqual(list(impostors.unknown("new: Rattle.bits.specs.Bits.bitOf w 1")), ["bits/specs/Bits, bitOf"])
+
 
 class Setters(unittest.TestCase):
     """A setter lists the fields of its record, and sets the one that its literal gave v to."""
