@@ -1,6 +1,7 @@
 -- Laws of tests: how a chain of tests is taken apart and put together.
 --     and-left, and-right   a chain that holds has its parts
 --     and-both              the parts make the chain
+--     and-true              a test alone is the chain of it with one that holds
 --     implied, implies      "not p, or q" is: if p then q
 --     every-at, at-every    a test at each index below n is the tests at all of them
 --     and-fails, every-fails   a chain fails if its second part does; a test at every index if it fails at one
@@ -28,6 +29,10 @@ and-right false q h = absurd (false≢true h)
 pub and-both : (p q : Bool) → p ≡ true → q ≡ true → (p && q) ≡ true
 and-both true q hp hq = hq
 and-both false q hp hq = hp
+
+pub and-true : (t : Bool) → t ≡ (t && true)
+and-true true = refl
+and-true false = refl
 
 pub implied : (p q : Bool) → (not p || q) ≡ true → p ≡ true → q ≡ true
 implied true q h hp = h
