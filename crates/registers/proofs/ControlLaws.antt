@@ -1,5 +1,7 @@
 -- Laws of trigger control: the code's word of counted pulses has the bits of the rule.
 --     counted-at          bit i of the counted pulses is the rule for input i + 1
+--     enabled-at          bit i of the enabled inputs is the enable bit of input i + 1
+--     run-is-enabled      the code's run of the enable bits has them
 --     counted-when-open   with no strobe asked for, or with it high, the enabled pulses count
 --     counted-when-shut   in strobe mode with the strobe low none counts
 -- Assumes nothing.
@@ -10,13 +12,27 @@ use lib.Dec.{ltb}
 use lib.Bits.{bitAnd}
 use Rattle.bits.specs.Bits.{bitAt, maskOf}
 use Rattle.bits.proofs.BitsLaws.{and-at, low-at, half-at, mask-at, mask-at-below, mask-same, mask-none, words-equal-by-bits}
-use Rattle.registers.specs.Control.{isStrobeMode, isEnabled, counts, countedOf}
+use Rattle.registers.specs.Control.{isStrobeMode, isEnabled, counts, countedOf, enabledOf}
 use Rattle.registers.specs.declared.control.Control.{Control}
 
 pub counted-at : (strobe : Bool) (triggers : ℕ) (c : Control) (i : ℕ) → i < 12
     → bitAt (countedOf strobe triggers c) i ≡ counts c strobe triggers i
 unfolding countedOf
 counted-at strobe triggers c i h = mask-at-below 12 (counts c strobe triggers) i h
+
+pub enabled-at : (c : Control) (i : ℕ) → i < 12 → bitAt (enabledOf c) i ≡ isEnabled c i
+unfolding enabledOf
+enabled-at c i h = mask-at-below 12 (isEnabled c) i h
+
+-- [Test.3]
+pub run-is-enabled : (c : Control) → c .word / 2 % 2 ^ 12 ≡ enabledOf c
+unfolding enabledOf
+run-is-enabled c =
+    words-equal-by-bits (c .word / 2 % 2 ^ 12) (maskOf 12 (isEnabled c))
+    (λ i.
+    low-at 12 (c .word / 2) i
+    ∙ ap (λ (t : Bool). ltb i 12 && t) (sym (half-at (c .word) i))
+    ∙ sym (mask-at 12 (isEnabled c) i))
 
 -- ---- the code's two returns, from the value of its test
 
@@ -28,14 +44,13 @@ open-bit false true enabled = refl
 open-bit false false enabled = refl
 
 pub counted-when-open : (strobe : Bool) (triggers : ℕ) (c : Control) → (not (isStrobeMode c) || strobe) ≡ true
-    → bitAnd triggers (c .word / 2 % 2 ^ 12) ≡ countedOf strobe triggers c
-unfolding countedOf
+    → bitAnd triggers (enabledOf c) ≡ countedOf strobe triggers c
+unfolding countedOf enabledOf
 counted-when-open strobe triggers c h =
-    words-equal-by-bits (bitAnd triggers (c .word / 2 % 2 ^ 12)) (maskOf 12 (counts c strobe triggers))
+    words-equal-by-bits (bitAnd triggers (maskOf 12 (isEnabled c))) (maskOf 12 (counts c strobe triggers))
     (λ i.
-    and-at triggers (c .word / 2 % 2 ^ 12) i
-    ∙ ap (λ (t : Bool). bitAt triggers i && t) (low-at 12 (c .word / 2) i)
-    ∙ ap (λ (t : Bool). bitAt triggers i && (ltb i 12 && t)) (sym (half-at (c .word) i))
+    and-at triggers (maskOf 12 (isEnabled c)) i
+    ∙ ap (λ (t : Bool). bitAt triggers i && t) (mask-at 12 (isEnabled c) i)
     ∙ sym (open-bit (ltb i 12) (bitAt triggers i) (isEnabled c i))
     ∙ ap (λ (t : Bool). ltb i 12 && (bitAt triggers i && (isEnabled c i && t))) (sym h)
     ∙ sym (mask-at 12 (counts c strobe triggers) i))

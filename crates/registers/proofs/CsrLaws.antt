@@ -3,17 +3,19 @@
 --     go-rises-exactly        a write raises GO exactly when GO was 0, bit 0 is set and bit 16 is not
 --     clear-wins              a bit that the write sets and clears is 0 after it
 --     reset-clears            after RESET bits 0–3 are 0
+--     mode-after-.., ..-keeps-mode   bits 4–13: after a write, with RESET or not; after marks and after the end of a sync
 --     fresh-is-valid          the fresh CSR has no bit
---     ..-keeps-valid          a CSR with no bit other than 0–11 and 16–20 has none after the operation either
+--     ..-keeps-valid          a CSR with no bit other than 0–13 and 16–20 has none after the operation either
 -- Assumes nothing.
-use Prim.Native.Nat.{ℕ, _+_, _/_, _^_, _<_}
-use mathlib.Core.Path.{_≡_, refl, ap, ap₂, _∙_}
+use Prim.Native.Nat.{ℕ, _+_, _/_, _^_, _<_, _≤_}
+use mathlib.Core.Path.{_≡_, refl, sym, ap, ap₂, _∙_}
 use mathlib.Core.Bool.{Bool, true, false, not, _&&_, _||_}
 use lib.Bits.{bitAnd}
 use lib.Dec.{ltb, leb, leb·zero}
-use borrow.Author.Tests.{lt-ltb}
+use native.Mathlib.Omega.{arith}
+use borrow.Author.Tests.{lt-ltb, le-ltb, lt-leb}
 use Rattle.bits.specs.Bits.{bitAt, bitsFrom, setOf}
-use Rattle.bits.proofs.TestLaws.{and-fails}
+use Rattle.bits.proofs.TestLaws.{and-true, and-fails}
 use Rattle.bits.proofs.BitsLaws.{set-at, clear-at, and-at, shift-at, zero-at, run-at}
 use Rattle.bits.proofs.WidthLaws.{set-keeps-only, clear-keeps-only, and-keeps-only}
 use Rattle.registers.specs.Csr.{settableCount, settableBits, statusBits, storedBits, resetBits, goBit}
@@ -21,7 +23,7 @@ use Rattle.registers.specs.Csr.{hasBit, isGo, pausesOnNextSync, pausesAn
 use Rattle.registers.specs.Csr.{freshOf, clearedOf, clearedIfOf, markedOf, syncHoldEndedOf, userSyncEndedOf}
 use Rattle.registers.specs.Csr.{syncHoldEndedIfOf, userSyncEndedIfOf}
 use Rattle.registers.specs.Csr.{requestedOf, setThenClearedOf, goRises, changedOf, afterRequestOf, writtenOf}
-use Rattle.registers.specs.CsrBits.{isSettableBit, isStatusBit, bitSetThenCleared}
+use Rattle.registers.specs.CsrBits.{isSettableBit, isStatusBit, setOrCleared, bitSetThenCleared}
 use Rattle.registers.specs.CsrBits.{clearsStatus, bitChanged, bitAfter}
 use Rattle.registers.specs.declared.csr.Csr.{Csr}
 use Rattle.registers.specs.declared.csr.Request.{Request}
@@ -34,10 +36,6 @@ low-run-at n i = run-at 0 n i ∙ ap (λ (t : Bool). t && ltb i (0 + n)) (leb·z
 
 settable-at : (v i : ℕ) → bitAt (bitAnd v settableBits) i ≡ (bitAt v i && isSettableBit i)
 settable-at v i = and-at v settableBits i ∙ ap (λ (t : Bool). bitAt v i && t) (low-run-at settableCount i)
-
-and-true : (t : Bool) → t ≡ (t && true)
-and-true true = refl
-and-true false = refl
 
 cleared-if-at : (t : Bool) (m : ℕ) (c : Csr) (i : ℕ)
     → hasBit (clearedIfOf t m c) i ≡ (hasBit c i && not (t && bitAt m i))
@@ -126,6 +124,73 @@ reset-clears v c i h =
     after-request-at Reset v c i
     ∙ ap (λ (t : Bool). bitChanged v c i && not t) (lt-ltb i 4 h)
     ∙ and-fails (bitChanged v c i) refl
+
+-- ---- bits 4–13, the modes among them: a write sets and clears them, and nothing else does
+
+and-nothing : (t s : Bool) → (t && not (s && false)) ≡ t
+and-nothing true true = refl
+and-nothing true false = refl
+and-nothing false s = refl
+
+or-nothing : (t s : Bool) → (t || (s && false)) ≡ t
+or-nothing true s = refl
+or-nothing false true = refl
+or-nothing false false = refl
+
+module _ (i : ℕ) (from4 : 4 ≤ i) (below14 : i < settableCount) where
+  no-status : isStatusBit i ≡ false
+  no-status = rw (lt-leb 16 i (omega arith))
+
+  no-reset : ltb i 4 ≡ false
+  no-reset = le-ltb i 4 from4
+
+  settable : (v : ℕ) (c : Csr) → bitSetThenCleared v c i ≡ setOrCleared v i (hasBit c i)
+  settable v c =
+      rw (lt-ltb i settableCount below14, ← and-true (bitAt v i), ← and-true (bitAt v (16 + i)))
+
+  mode-after-change : (v : ℕ) (c : Csr) → hasBit (changedOf v c) i ≡ setOrCleared v i (hasBit c i)
+  mode-after-change v c =
+      changed-at v c i
+      ∙ ap (λ (t : Bool). bitSetThenCleared v c i && not (clearsStatus v c && t)) no-status
+      ∙ and-nothing (bitSetThenCleared v c i) (clearsStatus v c)
+      ∙ settable v c
+
+  -- [Test.8b] RESET leaves it as the write does
+  pub mode-after-reset : (v : ℕ) (c : Csr) → hasBit (afterRequestOf Reset v c) i ≡ setOrCleared v i (hasBit c i)
+  mode-after-reset v c =
+      after-request-at Reset v c i
+      ∙ ap (λ (t : Bool). bitChanged v c i && not t) no-reset
+      ∙ sym (and-true (bitChanged v c i))
+      ∙ sym (changed-at v c i)
+      ∙ mode-after-change v c
+
+  pub mode-after-write : (v : ℕ) (c : Csr) → hasBit (afterRequestOf Nothing v c) i ≡ setOrCleared v i (hasBit c i)
+  mode-after-write = mode-after-change
+
+  -- what a tick and a declined call do
+  pub marked-keeps-mode : (marks : ℕ) (c : Csr) → hasBit (markedOf marks c) i ≡ hasBit c i
+  marked-keeps-mode marks c =
+      marked-at marks c i
+      ∙ ap (λ (t : Bool). hasBit c i || (bitAt marks i && t)) no-status
+      ∙ or-nothing (hasBit c i) (bitAt marks i)
+
+  pub sync-hold-keeps-mode : (ended : Bool) (c : Csr) → hasBit (syncHoldEndedIfOf ended c) i ≡ hasBit c i
+  unfolding syncHoldEndedIfOf
+  sync-hold-keeps-mode true c =
+      sync-hold-ended-at c i
+      ∙ ap (λ (t : Bool). hasBit c i && not (pausesOnNextSync c && t)) (le-ltb i 2 (omega arith))
+      ∙ and-nothing (hasBit c i) (pausesOnNextSync c)
+  sync-hold-keeps-mode false c = refl
+
+  pub user-sync-keeps-mode : (ended : Bool) (c : Csr) → hasBit (userSyncEndedIfOf ended c) i ≡ hasBit c i
+  unfolding userSyncEndedIfOf
+  user-sync-keeps-mode true c =
+      user-sync-ended-at c i
+      ∙ ap₂ (λ (t u : Bool). (hasBit c i && not (leb 2 i && t)) && not (pausesAndSyncs c && u)) no-reset
+      (le-ltb i 1 (omega arith))
+      ∙ and-nothing (hasBit c i && not (leb 2 i && false)) (pausesAndSyncs c)
+      ∙ and-nothing (hasBit c i) (leb 2 i)
+  user-sync-keeps-mode false c = refl
 
 -- ---- a stored CSR stays valid
 

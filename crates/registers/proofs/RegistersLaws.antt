@@ -1,6 +1,6 @@
 -- Laws of the registers by number and of the values that they take.
 --     factor-, timer-, interval-fits-iff-no-bit-outside   the width law of bits, at 20, 14, 16 and 8 bits
---     control-fits-iff-no-bit-outside    the mask law of bits, for control
+--     control-, test-fits-iff-no-bit-outside    the mask law of bits
 --     assign-declines-40-to-4F, assign-declines-60-up     the codes that 01 does not list
 --     Between, Named, number-names       the numbers of each kind of register: the walk that the others go by
 --     past-last-is-absent                a number past the last names no register
@@ -10,21 +10,22 @@
 use Prim.Native.Nat.{ℕ, _-_, _<_, _≤_}
 use mathlib.Core.Path.{_≡_, refl}
 use mathlib.Core.Logic.{_↔_}
-use mathlib.Core.Bool.{true, false, _&&_}
+use mathlib.Core.Bool.{true, false, _&&_, _||_}
 use native.Mathlib.Omega.{arith}
 use lib.Dec.{eqb, ltb, leb}
-use borrow.Author.Tests.{lt-leb, le-leb, ltb-true, ltb-false, eqb-true, eqb-false}
+use borrow.Author.Tests.{lt-leb, le-leb, ltb-true, ltb-false, eqb-true, eqb-false, ne-eqb}
 use Rattle.bits.specs.Bits.{NoBitOutside, NoBitOutsideOf}
 use Rattle.bits.proofs.TestLaws.{by-cond}
 use Rattle.bits.proofs.WidthLaws.{fits-iff-no-bit-outside, only-iff-no-bit-outside}
-use Rattle.registers.specs.Registers.{lastRegister, numberedOf, facts, factsOf}
+use Rattle.registers.specs.Registers.{lastRegister, numberedOf, isControl, facts, factsOf}
 use Rattle.registers.specs.Registers.{factorWidth, timerWidth, intervalWidth, controlBits}
 use Rattle.registers.specs.Registers.{isValidControl, isValidFactor}
-use Rattle.registers.specs.Registers.{isValidInterval, isValidTimer, isValidAssign}
+use Rattle.registers.specs.Registers.{isValidInterval, isValidTimer, isValidAssign, testBits, isValidTest}
 use Rattle.registers.specs.declared.register.Register.{Register}
+use Rattle.registers.specs.declared.register.Facts.{Facts}
 use Rattle.registers.specs.declared.register.Setting.{Setting}
 use Rattle.registers.specs.declared.register.Setting.the-variants.{Control, Factor, RocEnable, Interval, Timer}
-use Rattle.registers.specs.declared.register.Register.the-variants.{Csr, Scaler, Assign, State, Absent}
+use Rattle.registers.specs.declared.register.Register.the-variants.{Csr, Scaler, Assign, State, Test, Absent}
 use Rattle.registers.specs.declared.register.Register.the-variants as register
 
 -- ---- no bit outside the register
@@ -40,6 +41,9 @@ interval-fits-iff-no-bit-outside v = fits-iff-no-bit-outside intervalWidth v
 
 pub control-fits-iff-no-bit-outside : (v : ℕ) → (isValidControl v ≡ true) ↔ NoBitOutsideOf controlBits v
 control-fits-iff-no-bit-outside v = only-iff-no-bit-outside controlBits v
+
+pub test-fits-iff-no-bit-outside : (v : ℕ) → (isValidTest v ≡ true) ↔ NoBitOutsideOf testBits v
+test-fits-iff-no-bit-outside v = only-iff-no-bit-outside testBits v
 
 -- ---- the codes that are not listed
 
@@ -66,34 +70,41 @@ SettingInRange (Timer n) = Between 1 5 n
 -- the register of the number n, with the numbers of its kind
 pub data Named (n : ℕ) : Register → Type 0 where
   csr : n ≡ 0 → Named n Csr
-  setting : (r : Setting) → Between 1 16 n → SettingInRange r → Named n (register.Setting r)
+  control : n ≡ 1 → Named n (register.Setting Control)
+  setting : (r : Setting) → Between 2 16 n → isControl r ≡ false → SettingInRange r → Named n (register.Setting r)
   scaler : (k : ℕ) → Between 17 18 n → Between 0 1 k → Named n (Scaler k)
   assign : n ≡ 19 → Named n Assign
-  state : n ≡ lastRegister → Named n State
+  state : n ≡ 20 → Named n State
+  test : n ≡ lastRegister → Named n Test
   absent : lastRegister < n → Named n Absent
+
+-- a number from k on that is not k
+past : (n k : ℕ) → k ≤ n → eqb n k ≡ false → k < n
+past n k from e = let other : (n ≡ k → ⊥) = eqb-false n k e in omega arith
 
 pub number-names : (n : ℕ) → Named n (numberedOf n)
 unfolding numberedOf
 number-names n =
     by-cond (Named n) (eqb n 0) (λ e. csr (eqb-true n 0 e)) (λ not0.
     let above0 : (n ≡ 0 → ⊥) = eqb-false n 0 not0 in
-    by-cond (Named n) (eqb n 1) (λ e. let at : n ≡ 1 = eqb-true n 1 e in setting Control (record { least = omega arith; most = omega arith }) tt) (λ not1.
+    by-cond (Named n) (eqb n 1) (λ e. control (eqb-true n 1 e)) (λ not1.
     let above1 : (n ≡ 1 → ⊥) = eqb-false n 1 not1 in
-    by-cond (Named n) (ltb n 10) (λ e. let below : n < 10 = ltb-true n 10 e in setting (Factor (n - 1)) (record { least = omega arith; most = omega arith }) (record { least = omega arith; most = omega arith })) (λ from10.
+    by-cond (Named n) (ltb n 10) (λ e. let below : n < 10 = ltb-true n 10 e in setting (Factor (n - 1)) (record { least = omega arith; most = omega arith }) refl (record { least = omega arith; most = omega arith })) (λ from10.
     let above : 10 ≤ n = ltb-false n 10 from10 in
-    by-cond (Named n) (eqb n 10) (λ e. let at : n ≡ 10 = eqb-true n 10 e in setting RocEnable (record { least = omega arith; most = omega arith }) tt) (λ not10.
+    by-cond (Named n) (eqb n 10) (λ e. let at : n ≡ 10 = eqb-true n 10 e in setting RocEnable (record { least = omega arith; most = omega arith }) refl tt) (λ not10.
     let above10 : (n ≡ 10 → ⊥) = eqb-false n 10 not10 in
-    by-cond (Named n) (eqb n 11) (λ e. let at : n ≡ 11 = eqb-true n 11 e in setting Interval (record { least = omega arith; most = omega arith }) tt) (λ not11.
+    by-cond (Named n) (eqb n 11) (λ e. let at : n ≡ 11 = eqb-true n 11 e in setting Interval (record { least = omega arith; most = omega arith }) refl tt) (λ not11.
     let above11 : (n ≡ 11 → ⊥) = eqb-false n 11 not11 in
-    by-cond (Named n) (ltb n 17) (λ e. let below : n < 17 = ltb-true n 17 e in setting (Timer (n - 11)) (record { least = omega arith; most = omega arith }) (record { least = omega arith; most = omega arith })) (λ from17.
+    by-cond (Named n) (ltb n 17) (λ e. let below : n < 17 = ltb-true n 17 e in setting (Timer (n - 11)) (record { least = omega arith; most = omega arith }) refl (record { least = omega arith; most = omega arith })) (λ from17.
     let above16 : 17 ≤ n = ltb-false n 17 from17 in
     by-cond (Named n) (ltb n 19) (λ e. let below : n < 19 = ltb-true n 19 e in scaler (n - 17) (record { least = omega arith; most = omega arith }) (record { least = omega arith; most = omega arith })) (λ from19.
     let above18 : 19 ≤ n = ltb-false n 19 from19 in
     by-cond (Named n) (eqb n 19) (λ e. assign (eqb-true n 19 e)) (λ not19.
-    let above19 : (n ≡ 19 → ⊥) = eqb-false n 19 not19 in
-    by-cond (Named n) (eqb n lastRegister) (λ e. state (eqb-true n lastRegister e)) (λ not20.
-    let above20 : (n ≡ 20 → ⊥) = eqb-false n lastRegister not20 in
-    absent (omega arith))))))))))
+    let above19 : 20 ≤ n = past n 19 above18 not19 in
+    by-cond (Named n) (eqb n 20) (λ e. state (eqb-true n 20 e)) (λ not20.
+    let above20 : 21 ≤ n = past n 20 above19 not20 in
+    by-cond (Named n) (eqb n lastRegister) (λ e. test (eqb-true n lastRegister e)) (λ not21.
+    absent (past n lastRegister above20 not21)))))))))))
 
 -- ---- what follows of a number's register
 
@@ -103,24 +114,33 @@ past-last-is-absent n past = go (number-names n)
   where
     go : {r : Register} → Named n r → r ≡ Absent
     go (csr e) = absurd (omega arith)
-    go (setting r at range) = absurd (omega (arith, at .most))
+    go (control e) = absurd (omega arith)
+    go (setting r at other range) = absurd (omega (arith, at .most))
     go (scaler k at range) = absurd (omega (arith, at .most))
     go (assign e) = absurd (omega arith)
     go (state e) = absurd (omega arith)
+    go (test e) = absurd (omega arith)
     go (absent h) = refl
 
--- [Declines.2b] [Declines.2c] [Declines.3a] 0–19 are read and written, 1–16 are protected; [State.8a] [State.8b] 20 is read
-pub facts-by-number : (n : ℕ) → factsOf (numberedOf n) ≡ facts (leb n 20) (leb n 19) (leb 1 n && leb n 16)
+-- [Declines.2b] [Declines.2c] [Declines.3a] 0–19 are read and written, 1–16 are protected; [State.8a] [State.8b] 20 is read,
+-- [Test.5b] 21 is written; [Test.2] 1 is open to test mode
+abbrev pub factsAt : (n : ℕ) → Facts
+factsAt n = facts (leb n 20) (leb n 19 || eqb n 21) (leb 1 n && leb n 16) (eqb n 1)
+
+pub facts-by-number : (n : ℕ) → factsOf (numberedOf n) ≡ factsAt n
 facts-by-number n = go (number-names n)
   where
-    go : {r : Register} → Named n r → factsOf r ≡ facts (leb n 20) (leb n 19) (leb 1 n && leb n 16)
+    go : {r : Register} → Named n r → factsOf r ≡ factsAt n
     go (csr e) = rw e
-    go (setting r at range) =
+    go (control e) = rw e
+    go (setting r at other range) =
         rw (
-          le-leb 1 n (at .least),
+          other,
+          le-leb 1 n (omega (arith, at .least)),
           le-leb n 16 (at .most),
           le-leb n 19 (omega (arith, at .most)),
           le-leb n 20 (omega (arith, at .most)),
+          ne-eqb n 1 (λ e. omega (arith, at .least)),
         )
     go (scaler k at range) =
         rw (
@@ -128,11 +148,20 @@ facts-by-number n = go (number-names n)
           lt-leb n 16 (at .least),
           le-leb n 19 (omega (arith, at .most)),
           le-leb n 20 (omega (arith, at .most)),
+          ne-eqb n 1 (λ e. omega (arith, at .least)),
         )
     go (assign e) = rw e
     go (state e) = rw e
+    go (test e) = rw e
     go (absent h) =
-        rw (le-leb 1 n (omega arith), lt-leb n 16 (omega arith), lt-leb n 19 (omega arith), lt-leb n 20 h)
+        rw (
+          le-leb 1 n (omega arith),
+          lt-leb n 16 (omega arith),
+          lt-leb n 19 (omega arith),
+          lt-leb n 20 (omega arith),
+          ne-eqb n 1 (λ e. omega arith),
+          ne-eqb n 21 (λ e. omega arith),
+        )
 
 -- [Registers.1] the factors, timers and scalers that there are
 abbrev pub InRange : Register → Type 0
@@ -141,6 +170,7 @@ InRange (register.Setting r) = SettingInRange r
 InRange (Scaler n) = Between 0 1 n
 InRange Assign = Unit {0}
 InRange State = Unit {0}
+InRange Test = Unit {0}
 InRange Absent = Unit {0}
 
 pub numbered-is-in-range : (n : ℕ) → InRange (numberedOf n)
@@ -148,8 +178,10 @@ numbered-is-in-range n = go (number-names n)
   where
     go : {r : Register} → Named n r → InRange r
     go (csr e) = tt
-    go (setting r at range) = range
+    go (control e) = tt
+    go (setting r at other range) = range
     go (scaler k at range) = range
     go (assign e) = tt
     go (state e) = tt
+    go (test e) = tt
     go (absent h) = tt

@@ -1,8 +1,9 @@
 -- Trigger control, register 1, held as the word that a read gives: its bits by name, and which pulses count.
---     document 01      "Registers", Control; "The tick", Pulses
+--     document 01      "Registers", Control; "The tick", Pulses; document 02, N5
 --     isStrobeMode, isEnabled, opensPrescales   the bits by name
 --     counts           a pulse of input i + 1 counts
 --     countedOf        the counted pulses of a tick
+--     enabledOf        the inputs that are enabled
 -- Own rules of 01 used here: none. Decisions: none. Left out: nothing.
 -- Assumes nothing.
 use Prim.Native.Nat.{ℕ, suc}
@@ -38,3 +39,7 @@ counts c strobe triggers i = bitAt triggers i && (isEnabled c i && (not (isStrob
 
 unfoldable pub countedOf : (strobe : Bool) (triggers : ℕ) → Control → ℕ
 countedOf strobe triggers c = maskOf inputs (counts c strobe triggers)
+
+-- [Test.3] a pulse of every enabled input
+unfoldable pub enabledOf : Control → ℕ
+enabledOf c = maskOf inputs (isEnabled c)

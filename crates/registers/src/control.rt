@@ -1,6 +1,6 @@
 // Trigger control, register 1 (document 01, "Registers"). The definitions are in specs/Control.antt.
 ghost use mathlib.Core.Path.{_≡_};
-ghost use Rattle.registers.specs.Control.{freshOf, isStrobeMode, opensPrescales, countedOf};
+ghost use Rattle.registers.specs.Control.{freshOf, isStrobeMode, opensPrescales, countedOf, enabledOf};
 
 // The word that a read of register 1 gives.
 pub struct Control {
@@ -35,8 +35,15 @@ impl Control {
         ensures { λ r. ⌜ r ≡ countedOf strobe triggers self ⌝ }
     {
         if !self.is_strobe_mode() | strobe {
-            return triggers & (self.word / 2 % Control::ENABLES_LIMIT);
+            return triggers & self.enabled();
         }
         0
+    }
+
+    // [Test.3] the inputs that are enabled
+    pub fn enabled(self) -> u32
+        ensures { λ r. ⌜ r ≡ enabledOf self ⌝ }
+    {
+        self.word / 2 % Control::ENABLES_LIMIT
     }
 }

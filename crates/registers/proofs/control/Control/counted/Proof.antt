@@ -12,7 +12,7 @@ returns : tie.Need-returns
 returns c =
     let a = c .before .before .before .args in
     let mode = ap (λ (t : Bool). not t || a .strobe) (sym (c .before .before .is-strobe-mode .ensures)) in
-    counted-when-open (a .strobe) (a .triggers) (a .self) (mode ∙ c .before .if1 .taken)
+    rw (c .enabled .ensures) (counted-when-open (a .strobe) (a .triggers) (a .self) (mode ∙ c .before .if1 .taken))
 
 returns-2 : tie.Need-returns-2
 returns-2 c =
@@ -21,4 +21,4 @@ returns-2 c =
     counted-when-shut (a .strobe) (a .triggers) (a .self) (mode ∙ c .if1 .left)
 
 pub counted-spec : {M : Type 1} → statement M
-counted-spec = tie.close (tie.spec (λ c κs. search needs) returns returns-2)
+counted-spec = tie.close (tie.spec (λ c κs. search needs) (λ c κs. search needs) returns returns-2)
