@@ -4,6 +4,7 @@
 --     every-of-four        four tests in a row are the test of every branch
 --     emptied-of-four      four fresh branches are a readout emptied
 --     gathered-of-four     four steps put together are the step of the readout, for `stepped`
+--     standing-of-four     four sides in a row are those of the readout as it stands, for `standing`
 --     quiet-is-silent      with every branch quiet and nothing to load nothing moves, for `step`
 --     quiet-is-well-formed quiet branches spoil no record if no place holds anything, for `is_well_formed`
 -- Assumes nothing.
@@ -32,7 +33,7 @@ use Rattle.branch.specs.declared.BranchStep.{BranchStep}
 use Rattle.branches.specs.ReadoutFields.{withBranches, withAcks, branchAt}
 use Rattle.branches.specs.Readout.{freshBranches, emptiedOf, isQuietOf, stepAt, sideAfterOf, branchesAfterOf}
 use Rattle.branches.specs.Readout.{sidesAfterOf, linesAt, stepOf, gatheredOf, noSide, silentOf}
-use Rattle.branches.specs.Readout.{isSoundBranchOf, isWellFormedOf}
+use Rattle.branches.specs.Readout.{standingSideOf, standingOf, isSoundBranchOf, isWellFormedOf}
 use Rattle.branches.specs.declared.Readout.{Readout}
 
 -- ---- four in a row
@@ -68,6 +69,13 @@ gathered-of-four acks load r h =
       next = r ▷ withBranches (tabulate k (λ i. stepIn acks load r i .next)) ▷ withAcks acks;
       sides = tabulate k (λ i. sideAfterOf (stepIn acks load r i));
     }) (sym h)
+
+pub standing-of-four : (bs : List Branch) → length bs ≡ 4
+    → standingSideOf (branchAt bs 0) ∷ standingSideOf (branchAt bs 1)
+    ∷ standingSideOf (branchAt bs 2) ∷ standingSideOf (branchAt bs 3) ∷ []
+    ≡ standingOf bs
+unfolding standingOf tabulate
+standing-of-four bs h = ap (λ (k : ℕ). tabulate k (λ i. standingSideOf (branchAt bs i))) (sym h)
 
 -- ---- nothing moves
 

@@ -6,6 +6,7 @@
 --     step-keeps-well-formed                  a step leaves every branch well formed
 --     fresh-..                                as many branches, and none holds a word; RESET leaves such too
 --     empty-at, room-at, room-is-below-eight  the two facts that the core asks, said of a branch
+--     standing-finishes-nothing, standing-shows   a held tick finishes nothing, and shows what stands
 -- Place k is branch k + 1.
 -- Assumes nothing.
 use Prim.Native.Nat.{ℕ, _%_, _<_}
@@ -17,9 +18,10 @@ use lib.Dec.{eqb, ltb}
 use lib.ListN.{length, getD, length-replicate, getD-replicate}
 use borrow.Author.Tests.{ltb-true, ltb-false, not-true}
 use Rattle.bits.specs.Notation.{if_then_else_}
+use Rattle.bits.specs.Bits.{tabulate}
 use Rattle.bits.specs.Bytes.{bytes}
 use Rattle.bits.proofs.TestLaws.{and-left, and-right, every-at, or-rest}
-use Rattle.bits.proofs.BitsLaws.{tabulate-at, tabulate-length}
+use Rattle.bits.proofs.BitsLaws.{tabulate-at, tabulate-past, tabulate-length}
 use Rattle.branch.specs.Branch as branch
 use Rattle.branch.specs.Branch.{queueDepth, held, hasPlaceFor, isSixBitLoad, WellFormedBranch}
 use Rattle.branch.specs.Slots.{wordsIn, isWordOf}
@@ -31,7 +33,7 @@ use Rattle.branch.proofs.BranchLaws as laws
 use Rattle.branches.specs.ReadoutFields.{branchAt}
 use Rattle.branches.specs.Readout.{moduleBranches, freshBranches, isEmptyOf, depthOf, hasRoomOf, stepAt}
 use Rattle.branches.specs.Readout.{sideAfterOf, branchesAfterOf, sidesAfterOf, noSide}
-use Rattle.branches.specs.Readout.{isSoundBranchOf, isWellFormedOf}
+use Rattle.branches.specs.Readout.{standingSideOf, standingOf, isSoundBranchOf, isWellFormedOf}
 use Rattle.branches.specs.declared.Side.{Side}
 
 -- ---- what the spoiled rule gives of a branch
@@ -134,3 +136,25 @@ module _ (bs : List Branch) (k : ℕ) (h : k < length bs) where
       go : (locked : Bool) → branchAt bs k .len < (if locked then 1 else queueDepth) → branchAt bs k .len < queueDepth
       go true room = omega arith
       go false room = room
+
+-- [Test.7a]
+pub standing-finishes-nothing : (bs : List Branch) (k : ℕ) → getD (standingOf bs) k noSide .finished ≡ Nothing
+unfolding standingOf
+standing-finishes-nothing bs k = go (ltb k (length bs)) refl
+  where
+    side : ℕ → Side
+    side i = standingSideOf (branchAt bs i)
+
+    at-place : (v : Side) → getD (tabulate (length bs) side) k noSide ≡ v
+        → getD (tabulate (length bs) side) k noSide .finished ≡ v .finished
+    at-place v e = ap (λ (w : Side). w .finished) e
+
+    go : (t : Bool) → ltb k (length bs) ≡ t → getD (tabulate (length bs) side) k noSide .finished ≡ Nothing
+    go true e = at-place (side k) (tabulate-at (length bs) side k noSide (ltb-true k (length bs) e))
+    go false e = at-place noSide (tabulate-past (length bs) side k noSide (ltb-false k (length bs) e))
+
+pub standing-shows : (bs : List Branch) (k : ℕ) → k < length bs
+    → getD (standingOf bs) k noSide .shown ≡ branch.shownIn (branchAt bs k .phase) (branchAt bs k)
+unfolding standingOf
+standing-shows bs k h =
+    ap (λ (v : Side). v .shown) (tabulate-at (length bs) (λ i. standingSideOf (branchAt bs i)) k noSide h)

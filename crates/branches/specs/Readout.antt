@@ -2,13 +2,14 @@
 -- tick. All that the rest of the record sees of the branches is here, and it is said of a list of any length, by place: the
 -- module has four.
 --     document 01     "The tick", Branches; "The tick", Main for the two facts that main asks; Active; Spoiled
---     document 02     N2, the kept acknowledges
+--     document 02     N2, the kept acknowledges; N5, a held tick
 --     isEmptyOf       every branch is empty; hasRoomOf: every branch is below its depth
 --     isQuietOf       no branch keeps the record active
 --     branchesAfterOf, sidesAfterOf   a tick of all branches, and what each finished and shows; acks and enabled give the
 --                     lines of a place, whatever words they come from
 --     isWellFormedOf  no branch spoils the record
 --     linesAt, stepOf how a module's own two words give the lines of each branch, and its tick
+--     standingOf      what each branch shows as it stands
 -- Place k is branch k + 1.
 -- Own rules of 01 and 02 used here: none. Decisions: B4, B6, T4, A4, R6. Left out: nothing.
 -- Assumes nothing.
@@ -115,6 +116,15 @@ noSide = record { finished = Nothing; shown = Nothing }
 
 abbrev pub silentOf : (acks : ℕ) → Readout → ReadoutStep
 silentOf acks r = record { next = r ▷ withAcks acks; sides = noSide ∷ noSide ∷ noSide ∷ noSide ∷ [] }
+
+-- ---- a tick that is held
+
+-- [Test.7a] nothing finishes, and the word shown is as it stands
+abbrev pub standingSideOf : Branch → Side
+standingSideOf b = record { finished = Nothing; shown = branch.shownIn (b .phase) b }
+
+unfoldable pub standingOf : List Branch → List Side
+standingOf bs = tabulate (length bs) (λ k. standingSideOf (branchAt bs k))
 
 -- ---- what of the branches spoils a record
 

@@ -1,7 +1,7 @@
 // The readout: the four branches of a module, their ROC enable register and the acknowledges of the latest tick (document
-// 01, "The tick", Branches; document 02, N2). The rest of the record sees the branches through these tests alone, and they
+// 01, "The tick", Branches; document 02, N2, N5). The rest of the record sees the branches through these tests alone, and they
 // see it through the word to load. The definitions are in specs/Readout.antt, over any number of branches; what STATE shows
-// of each branch is in handshakes.
+// of each branch is in handshakes, what a held tick shows in standing.
 ghost use mathlib.Core.Path.{_≡_};
 ghost use lib.ListN.{length};
 ghost use Rattle.branches.specs.Readout.{moduleBranches, freshOf, emptiedOf, isEmptyOf, hasRoomOf};
@@ -14,6 +14,7 @@ use branch::BranchStep;
 use branch::Slot;
 
 mod handshakes;
+mod standing;
 
 pub struct Readout {
     // place k is branch k + 1
