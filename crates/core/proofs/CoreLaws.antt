@@ -41,7 +41,7 @@ use Rattle.trigger.specs.declared.lines.Inputs.{Inputs}
 use Rattle.trigger.specs.declared.latch.Latch.{Latch}
 use Rattle.trigger.proofs.LatchLaws.{latch-is-one, accepted-is-ready}
 use Rattle.trigger.proofs.BlindTimeLaws.{rejected-starts-count, blind-is-not-over, count-falls, unready-loses-all}
-use Rattle.core.specs.Core.{resetOf, isRunning, pulsedOf, isReadyOf, latchedOf}
+use Rattle.core.specs.Core.{resetOf, isRunning, pulsedOf, isReadyOf, latchIn}
 use Rattle.core.specs.Core.{cycleStepOf, mainStepOf, userStepOf, settledOf, stepOf}
 use Rattle.core.specs.Spoiled.{allowsEightOf, isSoundOf}
 use Rattle.core.specs.declared.Core.{Core}
@@ -59,7 +59,7 @@ module _ (room empty : Bool) (x : Inputs) (memory : List ℕ) (c : Core) where
   word = wordAtOf memory (pulsedOf x c .passed)
 
   abbrev latch : Latch
-  latch = latchedOf x memory c
+  latch = latchIn x memory c
 
   -- [Ready.1] [Ready.5]
   accepted-when-ready : isSome (latch .accepted) ≡ true → isReadyOf (x .lines) c ≡ true

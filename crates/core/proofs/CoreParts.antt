@@ -6,13 +6,14 @@
 --     main-has-no-tag, main-loads-below-eight, main-at-idle-loads-nothing, main-loads-six-bits
 --     tag-waits-not, tag-is-wanted, tag-is-at-idle   where the user sync loads a tag
 --     sound-waits-at-idle                      main is not in a cycle while a user sync waits
+--     latched-at-none, unseen-word, step-by-latched   where nothing passed, nothing is latched and no word is asked for
 --     isLoad                                   an event or a tag
 --     tag-, event-loads-below-eight            a word is loaded only where no queue may hold eight
 -- Assumes nothing.
 use Prim.Native.Nat.{ℕ, _+_}
 use mathlib.Core.Path.{_≡_, refl, sym, ap, ap₂, _∙_}
-use mathlib.Core.Bool.{Bool, true, false, not, _&&_, _||_, true≢false, false≢true}
-use mathlib.Core.List.{_++_}
+use mathlib.Core.Bool.{Bool, true, false, not, _&&_, _||_, cond, true≢false, false≢true}
+use mathlib.Core.List.{List, _++_}
 use lib.Dec.{eqb, leb, lit<}
 use borrow.Author.Tests.{not-true}
 use Rattle.bits.specs.Bits.{oneIfOf}
@@ -20,7 +21,7 @@ use Rattle.bits.specs.Bytes.{allOf}
 use Rattle.bits.proofs.TestLaws.{and-left, and-right, and-fails, implied, all-true-at, all-true-right, by-cond}
 use Rattle.registers.specs.Csr as csr
 use Rattle.sync.proofs.SyncLaws.{user-tag-exactly}
-use Rattle.sequencer.specs.MemoryWord.{classInOf}
+use Rattle.sequencer.specs.MemoryWord.{isOkWord, classInOf}
 use Rattle.sequencer.specs.MainFields.{quiet}
 use Rattle.sequencer.specs.States.{isIdle, isUndecided, isLoaded, outcomeWords, isCleared, isEvent, isTag}
 use Rattle.sequencer.specs.MainSequencer as main
@@ -36,11 +37,13 @@ use Rattle.sequencer.proofs.MainLaws.{step-loads-in-order}
 use Rattle.sequencer.proofs.MainLaws as sequencer
 use Rattle.scalers.specs.Scalers.{isSome}
 use Rattle.trigger.specs.Lines.{hasFrontBusy}
+use Rattle.trigger.specs.Latch.{wordAtOf, latchOf}
+use Rattle.trigger.specs.declared.lines.Inputs.{Inputs}
 use Rattle.trigger.specs.BlindTime.{isOver}
 use Rattle.trigger.specs.declared.lines.Lines.{Lines}
 use Rattle.trigger.specs.declared.latch.Latch.{Latch}
 use Rattle.core.specs.Core.{isUninhibited, isReadyOf, isOpenOf}
-use Rattle.core.specs.Core.{testsOf, cycleStepOf, mainStepOf, userStepOf}
+use Rattle.core.specs.Core.{testsOf, cycleStepOf, mainStepOf, userStepOf, pulsedOf, latchIn, latchedOf, settledOf, stepOf}
 use Rattle.core.specs.Spoiled.{allowsEightOf, bankClauses, registerClauses, sequencerClauses, isSoundOf}
 use Rattle.core.specs.declared.Core.{Core}
 
@@ -157,6 +160,52 @@ unfolding isSoundOf
 sound-waits-at-idle c sound =
     let sequencers = all-true-right (bankClauses c ++ registerClauses c) (sequencerClauses c) sound in
     implied (c .user .waiting) (isIdle (c .main .state)) (all-true-at (sequencerClauses c) sequencers 2 (lit< tt))
+
+-- ---- the memory's word
+
+none-latched : (ready ok : Bool) → record { lost = 0; rejected = 0; accepted = 0 } ≡ latchOf ready ok 0
+none-latched true true = refl
+none-latched true false = refl
+none-latched false ok = refl
+
+-- [Ready.3] where nothing passed nothing is latched
+pub latched-at-none : (l : Lines) (memory : List ℕ) (passed : ℕ) (c : Core) → passed ≡ 0
+    → record { latch = record { lost = 0; rejected = 0; accepted = 0 }; word = 0 } ≡ latchedOf l memory passed c
+unfolding latchedOf
+latched-at-none l memory passed c none =
+    rw none (ap (λ (k : Latch). record { latch = k; word = 0 }) (none-latched (isReadyOf l c) (isOkWord (wordAtOf memory 0))))
+
+-- and main does not look at the word
+pub unseen-word : (room empty : Bool) (l : Lines) (ready ok : Bool) (passed word : ℕ) (c : Core)
+    → mainStepOf room empty l (latchOf ready ok passed) (cond (isSome passed) word 0) c
+    ≡ mainStepOf room empty l (latchOf ready ok passed) word c
+unfolding mainStepOf
+unseen-word room empty l ready ok passed word c = go (isSome passed) refl
+  where
+    go : (t : Bool) → isSome passed ≡ t
+        → cond (isSome (latchOf ready ok passed .accepted)) (quiet (main.acceptedOf (cond t word 0) (c .main))) (cycleStepOf room empty l c)
+        ≡ cond (isSome (latchOf ready ok passed .accepted)) (quiet (main.acceptedOf word (c .main))) (cycleStepOf room empty l c)
+    go true e = refl
+    go false e = by (ready && ok)
+      where
+        by : (t : Bool)
+            → cond (isSome (cond t passed 0)) (quiet (main.acceptedOf 0 (c .main))) (cycleStepOf room empty l c)
+            ≡ cond (isSome (cond t passed 0)) (quiet (main.acceptedOf word (c .main))) (cycleStepOf room empty l c)
+        by true = rw e
+        by false = refl
+
+-- so the step is that of the code
+pub step-by-latched : (room empty : Bool) (x : Inputs) (memory : List ℕ) (c : Core)
+    → settledOf (x .lines) (pulsedOf x c) (latchedOf (x .lines) memory (pulsedOf x c .passed) c .latch)
+    (mainStepOf room empty (x .lines) (latchedOf (x .lines) memory (pulsedOf x c .passed) c .latch)
+    (latchedOf (x .lines) memory (pulsedOf x c .passed) c .word) c)
+    (userStepOf empty c) c
+    ≡ stepOf room empty x memory c
+unfolding stepOf latchedOf
+step-by-latched room empty x memory c =
+    let passed = pulsedOf x c .passed in
+    ap (λ (m : MainStep). settledOf (x .lines) (pulsedOf x c) (latchIn x memory c) m (userStepOf empty c) c)
+    (unseen-word room empty (x .lines) (isReadyOf (x .lines) c) (isOkWord (wordAtOf memory passed)) passed (wordAtOf memory passed) c)
 
 -- ---- where a word is loaded
 

@@ -1,13 +1,14 @@
 -- The core: all of the record but the branches, which it sees through two facts. A tick of it: pulses, ready, main and user
 -- sync; the latch, and what their moves change besides, are in trigger.
---     document 01    "The tick"; Active; document 02, N1, N2
+--     document 01    "The tick"; Active; document 02, N1, N2, N5
 --     isReadyOf      the ready rule
 --     mainStepOf, userStepOf   what main and the user sync do
 --     settledOf, stepOf   the core after all of them, with what the tick reports; a tick of the core
 --     freshOf, resetOf   the core at power-up, and after RESET
 --     linesOutOf     the lines out
 --     isActiveOf     its part of the active rule
--- [Tick.2]: each part below is a function of the record as the tick found it, and of nothing that another part changed.
+-- [Tick.2]: each part below is a function of the record as the tick found it, and of nothing that another part changed. The
+-- inputs are those in force, and the tick runs: testing says which, supervisor when.
 -- Own rules of 01 used here: none. Decisions: T1, T2, T4, T8, R6, A4. Left out: the spoiled rule, in Spoiled.
 -- Assumes nothing.
 use Prim.Native.Nat.{ℕ, _+_, _*_, _%_}
@@ -39,9 +40,12 @@ use Rattle.trigger.specs.Effects.{csrAfterOf, syncAfterOf, outcomeOf, signalsOf
 use Rattle.trigger.specs.declared.lines.Lines.{Lines}
 use Rattle.trigger.specs.declared.lines.Inputs.{Inputs}
 use Rattle.trigger.specs.declared.latch.Latch.{Latch}
-use Rattle.core.specs.CoreFields.{withPrescalers, withScalers, withMain, withSync, withBlind, withUser}
+use Rattle.testing.specs.TestWord as test
+use Rattle.core.specs.CoreFields.{withPrescalers, withTest, withScalers, withMain, withSync, withBlind}
+use Rattle.core.specs.CoreFields.{withUser}
 use Rattle.core.specs.declared.Core.{Core}
 use Rattle.core.specs.declared.CoreStep.{CoreStep}
+use Rattle.core.specs.declared.Latched.{Latched}
 
 -- ---- fresh, and RESET
 
@@ -52,6 +56,7 @@ freshOf =
       prescalers = prescaler.freshOf;
       csr = csr.freshOf;
       control = control.freshOf;
+      test = test.freshOf;
       scalers = scalers.freshOf;
       main = main.idleOf;
       timers = timers.freshOf;
@@ -62,11 +67,13 @@ freshOf =
     }
 
 -- [CSRWrite.2d] the sequencers idle, scalers and sync count 0, every prescale counter loaded; the CSR's own bits are
--- cleared by the write; [Blind.3] the blind count 0; [State.3] what is kept of the latest tick stays
+-- cleared by the write; [Blind.3] the blind count 0; [State.3] what is kept of the latest tick stays; [Test.8b] what waits of
+-- TEST is dropped
 unfoldable pub resetOf : Core → Core
 resetOf c =
-    c ▷ withPrescalers (prescaler.reloadedOf (c .prescalers)) ▷ withScalers (scalers.resetOf (c .scalers))
-    ▷ withMain main.idleOf ▷ withSync (counter.zeroedOf (c .sync)) ▷ withBlind blind.freshOf ▷ withUser user.freshOf
+    c ▷ withPrescalers (prescaler.reloadedOf (c .prescalers)) ▷ withTest test.freshOf
+    ▷ withScalers (scalers.resetOf (c .scalers)) ▷ withMain main.idleOf ▷ withSync (counter.zeroedOf (c .sync))
+    ▷ withBlind blind.freshOf ▷ withUser user.freshOf
 
 -- ---- pulses
 
@@ -133,7 +140,8 @@ userStepOf empty c = user.stepOf (csr.wantsUserSync (c .csr)) (isIdle (c .main .
 
 -- ---- the core put together again
 
--- [Tick.3] [State.3]
+-- [Tick.3] [State.3]; [Test.7b] the lines are those in force; [Test.6] [Test.8a] what waited has acted or is dropped, and a
+-- single step is used up
 unfoldable pub settledOf : Lines → Prescaled → Latch → MainStep → UserStep → Core → CoreStep
 settledOf l p latch m u c =
     record {
@@ -141,6 +149,7 @@ settledOf l p latch m u c =
         prescalers = p .next;
         csr = csrAfterOf l m u (c .csr);
         control = c .control;
+        test = test.freshOf;
         scalers = scalers.countedOf (signalsOf (p .passed) latch m u) (c .scalers);
         main = m .next;
         timers = c .timers;
@@ -155,15 +164,23 @@ settledOf l p latch m u c =
 
 -- ---- a tick of the core; room and empty are what it sees of the branches
 
-abbrev pub latchedOf : Inputs → List ℕ → Core → Latch
-latchedOf x memory c =
+abbrev pub latchIn : Inputs → List ℕ → Core → Latch
+latchIn x memory c =
     latchOf (isReadyOf (x .lines) c) (isOkWord (wordAtOf memory (pulsedOf x c .passed))) (pulsedOf x c .passed)
+
+-- the same with the word, which nothing asks for where nothing passed
+unfoldable pub latchedOf : Lines → List ℕ → (passed : ℕ) → Core → Latched
+latchedOf l memory passed c =
+    record {
+      latch = latchOf (isReadyOf l c) (isOkWord (wordAtOf memory passed)) passed;
+      word = if scalers.isSome passed then wordAtOf memory passed else 0;
+    }
 
 -- [Tick.2] every part is given the record at the tick's start
 unfoldable pub stepOf : (room empty : Bool) → Inputs → List ℕ → Core → CoreStep
 stepOf room empty x memory c =
-    settledOf (x .lines) (pulsedOf x c) (latchedOf x memory c)
-    (mainStepOf room empty (x .lines) (latchedOf x memory c) (wordAtOf memory (pulsedOf x c .passed)) c)
+    settledOf (x .lines) (pulsedOf x c) (latchIn x memory c)
+    (mainStepOf room empty (x .lines) (latchIn x memory c) (wordAtOf memory (pulsedOf x c .passed)) c)
     (userStepOf empty c) c
 
 -- ---- lines out, and what the active rule asks of the core

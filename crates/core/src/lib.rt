@@ -1,9 +1,9 @@
-// The core of the supervisor: all of the record but the branches (document 01, "The tick"). It sees the branches
-// through two facts, every one empty and every one below its depth. The definitions are in specs/Core.antt; the spoiled rule
-// is in spoiled.
+// The core of the supervisor: all of the record but the branches (document 01, "The tick"; document 02, N1, N2, N5). It sees
+// the branches through two facts, every one empty and every one below its depth. The definitions are in specs/Core.antt; the
+// spoiled rule is in spoiled, the same core built anew in rebuilt.
 ghost use mathlib.Core.Path.{_≡_};
 ghost use Rattle.core.specs.Core.{freshOf, resetOf, pulsedOf, isOpenOf, isReadyOf, testsOf};
-ghost use Rattle.core.specs.Core.{cycleStepOf, mainStepOf, settledOf, stepOf, linesOutOf, isActiveOf};
+ghost use Rattle.core.specs.Core.{cycleStepOf, mainStepOf, settledOf, latchedOf, stepOf, linesOutOf, isActiveOf};
 use prescaler::Prescaled;
 use prescaler::Prescalers;
 use registers::control::Control;
@@ -17,6 +17,7 @@ use sequencer::states::Outcome;
 use sync::counter::SyncCounter;
 use sync::user::UserStep;
 use sync::user::UserSync;
+use testing::TestWord;
 use timers::Timers;
 use trigger::blind::BlindTime;
 use trigger::effects::csr_after;
@@ -32,6 +33,7 @@ use trigger::latest::Latest;
 use trigger::lines::Inputs;
 use trigger::lines::Lines;
 
+mod rebuilt;
 mod spoiled;
 
 pub struct Core {
@@ -39,6 +41,8 @@ pub struct Core {
     pub prescalers: Prescalers,
     pub csr: Csr,
     pub control: Control,
+    // register 21
+    pub test: TestWord,
     // registers 17–19
     pub scalers: Scalers,
     pub main: MainSequencer,
@@ -49,6 +53,12 @@ pub struct Core {
     pub blind: BlindTime,
     pub user: UserSync,
     pub latest: Latest,
+}
+
+// What became of the pulses that passed, and the memory's word for them.
+pub struct Latched {
+    pub latch: Latch,
+    pub word: u16,
 }
 
 pub struct CoreStep {
@@ -66,6 +76,7 @@ impl Core {
             prescalers: Prescalers::fresh(),
             csr: Csr::fresh(),
             control: Control::fresh(),
+            test: TestWord::fresh(),
             scalers: Scalers::fresh(),
             main: MainSequencer::idle(),
             timers: Timers::fresh(),
@@ -76,7 +87,7 @@ impl Core {
         }
     }
 
-    // [CSRWrite.2d] [Blind.3] [State.3] RESET, but for the CSR's own bits
+    // [CSRWrite.2d] [Blind.3] [State.3] [Test.8b] RESET, but for the CSR's own bits
     pub fn reset(self) -> Core
         ensures { λ r. ⌜ r ≡ resetOf self ⌝ }
     {
@@ -88,6 +99,7 @@ impl Core {
             prescalers: self.prescalers.reloaded(),
             csr,
             control,
+            test: TestWord::fresh(),
             scalers: self.scalers.reset(),
             main: MainSequencer::idle(),
             timers,
@@ -157,7 +169,7 @@ impl Core {
         }
     }
 
-    // [Tick.3] the core put together again
+    // [Tick.3] [Test.6] [Test.7b] the core put together again
     fn settled(self, lines: Lines, p: Prescaled, latch: Latch, m: MainStep, u: UserStep) -> CoreStep
         ensures { λ r. ⌜ r ≡ settledOf lines p latch m u self ⌝ }
     {
@@ -171,6 +183,7 @@ impl Core {
             prescalers,
             csr: csr_after(csr, lines, m, u),
             control,
+            test: TestWord::fresh(),
             scalers: self.scalers.counted(signals_of(p.passed, latch, m, u)),
             main,
             timers,
@@ -184,6 +197,23 @@ impl Core {
             masks: masks_of(p, latch),
             outcome: outcome_of(m, u),
         }
+    }
+
+    // [Ready.3] where nothing passed, neither the ready rule nor the memory is asked
+    fn latched(self, lines: Lines, memory: &[u16], passed: u32) -> Latched
+        ensures { λ r. ⌜ r ≡ latchedOf lines (now (memory .entry)) passed self ⌝ }
+    {
+        if passed == 0 {
+            let latch = Latch {
+                lost: 0,
+                rejected: 0,
+                accepted: 0,
+            };
+            return Latched { latch, word: 0 };
+        }
+        let word = word_at(memory, passed);
+        let latch = latch_of(self.is_ready(lines), word, passed);
+        Latched { latch, word }
     }
 
     // [Main.1] the age rises first
@@ -220,9 +250,9 @@ impl Core {
         let user = self.user;
         let lines = x.lines;
         let p = self.pulsed(x);
-        let word = word_at(memory, p.passed);
-        let latch = latch_of(self.is_ready(lines), word, p.passed);
-        let m = self.main_step(lines, latch, word, room, empty);
+        let l = self.latched(lines, memory, p.passed);
+        let latch = l.latch;
+        let m = self.main_step(lines, latch, l.word, room, empty);
         let u = user.step(csr.wants_user_sync(), state.is_idle(), empty);
         self.settled(lines, p, latch, m, u)
     }

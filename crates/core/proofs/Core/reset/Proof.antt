@@ -9,18 +9,20 @@ returns : tie.Need-returns
 unfolding resetOf
 returns c =
     rw (
-      c .fresh2 .ensures,
-      c .before .fresh .ensures,
+      c .fresh3 .ensures,
+      c .before .fresh2 .ensures,
       c .before .before .zeroed .ensures,
       c .before .before .before .idle .ensures,
       c .before .before .before .before .reset .ensures,
-      c .before .before .before .before .before .reloaded .ensures,
+      c .before .before .before .before .before .fresh .ensures,
+      c .before .before .before .before .before .before .reloaded .ensures,
     )
 
 pub reset-spec : {M : Type 1} → statement M
 reset-spec =
     tie.close
     (tie.spec
+    (λ c κs. search needs)
     (λ c κs. search needs)
     (λ c κs. search needs)
     (λ c κs. search needs)

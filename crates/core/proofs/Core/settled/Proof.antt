@@ -17,13 +17,15 @@ returns c =
       c .before .before .before .before .before .enables-sync .ensures,
       c .before .before .before .before .before .before .counted .ensures,
       c .before .before .before .before .before .before .before .signals-of .ensures,
-      c .before .before .before .before .before .before .before .before .csr-after .ensures,
+      c .before .before .before .before .before .before .before .before .fresh .ensures,
+      c .before .before .before .before .before .before .before .before .before .csr-after .ensures,
     )
 
 pub settled-spec : {M : Type 1} → statement M
 settled-spec =
     tie.close
     (tie.spec
+    (λ c κs. search needs)
     (λ c κs. search needs)
     (λ c κs. search needs)
     (λ c κs. search needs)

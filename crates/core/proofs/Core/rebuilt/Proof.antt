@@ -1,0 +1,11 @@
+-- `core::Core::rebuilt` meets its contract: every field is as it was.
+-- First written by tools/prove.py. Assumes nothing.
+use borrow.Author.Needs.{needs}
+use Rattle.core.proofs.Core.rebuilt.Statement.{statement}
+use Rattle.core.proofs.Core.rebuilt.Tie as tie
+
+returns : tie.Need-returns
+returns c = rw (c .rebuilt-main .ensures)
+
+pub rebuilt-spec : {M : Type 1} → statement M
+rebuilt-spec = tie.close (tie.spec (λ c κs. search needs) returns)
