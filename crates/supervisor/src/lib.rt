@@ -1,10 +1,10 @@
-// The supervisor's whole record (document 01): the core, and the readout of one module. Each method takes the record by
+// The supervisor's whole record (documents 01 and 02): the core, and the readout of one module. Each method takes the record by
 // value and hands back the next one. The definitions are in specs/Supervisor.antt.
 ghost use mathlib.Core.Path.{_≡_};
 ghost use Rattle.branches.specs.Readout.{moduleBranches};
 ghost use Rattle.supervisor.specs.Supervisor.{withReadout, withCore, freshOf, initializedOf, resetOf};
 ghost use Rattle.supervisor.specs.Supervisor.{isActiveOf, isSpoiledOf, loadOf, coreStepOf, readoutStepOf};
-ghost use Rattle.supervisor.specs.Supervisor.{joinedOf, tickedOf};
+ghost use Rattle.supervisor.specs.Supervisor.{joinedOf, ranOf, inForceOf, isHeldOf, heldOf, tickedOf};
 use branch::Slot;
 use branches::Readout;
 use branches::ReadoutStep;
@@ -12,6 +12,7 @@ use branches::Side;
 use core::Core;
 use core::CoreStep;
 use sequencer::states::Outcome;
+use testing::held_masks;
 use trigger::latch::Masks;
 use trigger::lines::Inputs;
 
@@ -94,6 +95,17 @@ impl Supervisor {
         Supervisor { readout, core }
     }
 
+    // The same record, field by field, for a tick that leaves it as it is: a plain copy would have every tick carry the bytes
+    // between the fields.
+    pub fn rebuilt(self) -> Supervisor
+        ensures { λ r. ⌜ r ≡ self ⌝ }
+    {
+        Supervisor {
+            readout: self.readout.rebuilt(),
+            core: self.core.rebuilt(),
+        }
+    }
+
     // [CSRWrite.1] INITIALIZE
     pub fn initialized(self) -> Supervisor
         ensures { λ r. ⌜ r ≡ initializedOf self ⌝ }
@@ -148,13 +160,58 @@ impl Supervisor {
         readout.step(x.acks, load_of(outcome))
     }
 
-    // The tick of a record that is not spoiled, with a whole memory and inputs in range: the declines are in calls.
-    pub fn ticked(self, memory: &[u16], x: Inputs) -> Ticked
-        ensures { λ r. ⌜ r ≡ tickedOf (now (memory .entry)) x self ⌝ }
+    // a tick that runs; x are the inputs in force
+    fn ran(self, memory: &[u16], x: Inputs) -> Ticked
+        ensures { λ r. ⌜ r ≡ ranOf (now (memory .entry)) x self ⌝ }
     {
         let c = self.core_step(memory, x);
         let outcome = c.outcome;
         let r = self.readout_step(x, outcome);
         joined(c, r)
+    }
+
+    // [Test.2] [Test.6]
+    fn in_force(self, x: Inputs) -> Inputs
+        ensures { λ r. ⌜ r ≡ inForceOf x self ⌝ }
+    {
+        let core = self.core;
+        let test = core.test;
+        test.in_force(core.csr, core.control, x)
+    }
+
+    // [Test.7a] [Test.8a]
+    fn is_held(self) -> bool
+        ensures { λ r. ⌜ r ≡ isHeldOf self ⌝ }
+    {
+        let core = self.core;
+        let test = core.test;
+        test.is_held(core.csr)
+    }
+
+    // [Test.7a] [Test.7b] a tick that does not run
+    fn held(self, x: Inputs) -> Ticked
+        ensures { λ r. ⌜ r ≡ heldOf x self ⌝ }
+    {
+        let core = self.core;
+        let answer = Answer {
+            masks: held_masks(core.csr, core.control, x),
+            lines: core.lines_out(),
+            outcome: Outcome::Nothing,
+            sides: self.readout.standing(),
+        };
+        Ticked {
+            next: self.rebuilt(),
+            answer,
+        }
+    }
+
+    // The tick of a record that is not spoiled, with a whole memory and inputs in range: the declines are in calls.
+    pub fn ticked(self, memory: &[u16], x: Inputs) -> Ticked
+        ensures { λ r. ⌜ r ≡ tickedOf (now (memory .entry)) x self ⌝ }
+    {
+        if self.is_held() {
+            return self.held(x);
+        }
+        self.ran(memory, self.in_force(x))
     }
 }
