@@ -1,10 +1,10 @@
 // What a register write that is carried out does to the record, and what a read leaves and gives (document 01, "Registers";
-// document 02, N2 and N4). The definitions are in specs/Access.antt; STATE has a crate of its own.
+// document 02, N2, N4 and N5). The definitions are in specs/Access.antt; STATE has a crate of its own.
 ghost use mathlib.Core.Path.{_≡_};
 ghost use Rattle.branches.specs.ReadoutFields.{withRoc};
 ghost use Rattle.core.specs.CoreFields.{withScalers};
 ghost use Rattle.supervisor.specs.Supervisor.{withReadout, onCore};
-ghost use Rattle.access.specs.Access.{afterCsrOf, csrWrittenOf, settingWrittenOf, scalerWrittenOf};
+ghost use Rattle.access.specs.Access.{afterCsrOf, csrWrittenOf, settingWrittenOf, scalerWrittenOf, testWrittenOf};
 ghost use Rattle.access.specs.Access.{writtenOf, settingOf, baseOf, mergedOf, afterReadOf, shownOf};
 use registers::control::Control;
 use registers::csr::Csr;
@@ -99,6 +99,17 @@ fn scaler_written(s: Supervisor, n: u32, loads: bool) -> Supervisor
     s
 }
 
+// [Test.6] [Test.8a]
+fn test_written(s: Supervisor, value: u32) -> Supervisor
+    ensures { λ r. ⌜ r ≡ testWrittenOf value s ⌝ }
+{
+    let mut core = s.core;
+    let csr = core.csr;
+    let test = core.test.written(csr.holds_clock(), value);
+    core.test = test;
+    s.with_core(core)
+}
+
 // [CSRWrite.3] a register write that is carried out; it is not given the memory
 pub fn written(s: Supervisor, register: Register, loads: bool, value: u32) -> Supervisor
     ensures { λ r. ⌜ r ≡ writtenOf register loads value s ⌝ }
@@ -113,6 +124,7 @@ pub fn written(s: Supervisor, register: Register, loads: bool, value: u32) -> Su
             with_scalers(s, scalers)
         }
         Register::State => s,
+        Register::Test => test_written(s, value),
         Register::Absent => s,
     }
 }
@@ -130,7 +142,7 @@ fn setting_value(s: Supervisor, setting: Setting) -> u32
     }
 }
 
-// [Bytes.3a] where a write takes the bytes that it lacks from; [Bytes.3b] the CSR's count as 0
+// [Bytes.3a] where a write takes the bytes that it lacks from; [Bytes.3b] the CSR's count as 0, as TEST's do
 fn base(s: Supervisor, register: Register) -> u32
     ensures { λ r. ⌜ r ≡ baseOf register s ⌝ }
 {
@@ -140,6 +152,7 @@ fn base(s: Supervisor, register: Register) -> u32
         Register::Scaler(_) => 0,
         Register::Assign => s.core.scalers.assign,
         Register::State => 0,
+        Register::Test => 0,
         Register::Absent => 0,
     }
 }
@@ -166,11 +179,12 @@ pub fn after_read(s: Supervisor, register: Register, latches: bool) -> Superviso
         }
         Register::Assign => s,
         Register::State => s,
+        Register::Test => s,
         Register::Absent => s,
     }
 }
 
-// [Declines.3b] the stored value; [State.8a] [Bytes.5b] of a scaler the value last latched
+// [Declines.3b] the stored value; [State.8a] [Bytes.5b] of a scaler the value last latched; [Test.5b] TEST is not read
 pub fn shown(s: Supervisor, register: Register) -> u32
     ensures { λ r. ⌜ r ≡ shownOf register s ⌝ }
 {
@@ -181,6 +195,7 @@ pub fn shown(s: Supervisor, register: Register) -> u32
         Register::Scaler(n) => core.scalers.latch(n),
         Register::Assign => core.scalers.assign,
         Register::State => state(s),
+        Register::Test => 0,
         Register::Absent => 0,
     }
 }

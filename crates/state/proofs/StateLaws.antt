@@ -3,10 +3,10 @@
 --     state-shows-its-bits    every bit of the word is its test
 --     fresh-state-reads       the word of a fresh record
 --     reset-keeps             RESET keeps what is kept of the latest tick
---     shows-tick              after a tick STATE shows what it brought, and whether it latched a pattern
+--     shows-tick              after a tick that runs STATE shows what was in force, and whether it latched a pattern
 -- Assumes nothing.
 use Prim.Native.Nat.{ℕ, _+_, _*_}
-use mathlib.Core.Path.{_≡_, refl, sym, ap, _∙_}
+use mathlib.Core.Path.{_≡_, refl, sym, ap, subst, _∙_}
 use mathlib.Core.Bool.{Bool, true, false, _&&_}
 use mathlib.Core.List.{List}
 use native.Mathlib.Omega.{arith}
@@ -18,7 +18,10 @@ use Rattle.bits.proofs.BitsLaws.{mask-at, mask-joins, mask-same}
 use Rattle.branches.specs.Readout.{moduleBranches, emptiedOf, isEmptyOf, hasRoomOf, isQuietOf}
 use Rattle.trigger.specs.declared.lines.Inputs.{Inputs}
 use Rattle.core.specs.Core as core
-use Rattle.supervisor.specs.Supervisor.{freshOf, resetOf, isActiveOf, coreStepOf, joinedOf, tickedOf}
+use Rattle.supervisor.specs.Supervisor.{freshOf, resetOf, isActiveOf, coreStepOf, joinedOf, ranOf, inForceOf, isHeldOf}
+use Rattle.supervisor.specs.Supervisor.{tickedOf}
+use Rattle.supervisor.specs.declared.Ticked.{Ticked}
+use Rattle.supervisor.proofs.SupervisorLaws.{unheld-runs}
 use Rattle.supervisor.specs.declared.Supervisor.{Supervisor}
 use Rattle.state.specs.State.{stateBitsOf, stateBitAt, stateOf, stateByteOf, latestTickIn, ShowsTick}
 
@@ -63,11 +66,11 @@ unfolding resetOf core.resetOf emptiedOf
 reset-keeps s = refl
 
 -- [State.3] [State.6] [State.7]
-pub shows-tick : (memory : List ℕ) (x : Inputs) (s : Supervisor)
-    → ShowsTick x (tickedOf memory x s .answer .masks) (tickedOf memory x s .next)
-unfolding tickedOf joinedOf coreStepOf core.stepOf core.settledOf stateBitsOf
-shows-tick memory x s =
-    let bit = state-shows-its-bits (tickedOf memory x s .next) in
+ran-shows : (memory : List ℕ) (x : Inputs) (s : Supervisor)
+    → ShowsTick x (ranOf memory x s .answer .masks) (ranOf memory x s .next)
+unfolding ranOf joinedOf coreStepOf core.stepOf core.settledOf stateBitsOf
+ran-shows memory x s =
+    let bit = state-shows-its-bits (ranOf memory x s .next) in
     record {
       pass2 = bit 2;
       fail2 = bit 3;
@@ -77,3 +80,10 @@ shows-tick memory x s =
       inhibit = bit 11;
       latched = bit 12;
     }
+
+-- [Test.7b] the lines in force in it
+pub shows-tick : (memory : List ℕ) (x : Inputs) (s : Supervisor) → isHeldOf s ≡ false
+    → ShowsTick (inForceOf x s) (tickedOf memory x s .answer .masks) (tickedOf memory x s .next)
+shows-tick memory x s runs =
+    subst (λ (t : Ticked). ShowsTick (inForceOf x s) (t .answer .masks) (t .next)) (sym (unheld-runs memory x s runs))
+    (ran-shows memory (inForceOf x s) s)

@@ -3,9 +3,9 @@
 --     stateBitsOf     the 32 tests, bit 0 first, each by its name in section 3.11
 --     stateOf         the word that they make; stateByteOf: its bytes
 --     LatestTick, latestTickIn   what a record keeps of the latest tick
---     ShowsTick       that STATE shows what a tick brought, and whether it latched a pattern
--- The lines and the latched trigger are those of the latest tick that ran, as are the acknowledges; all else, the enabled
--- controllers too, is the record as it stands at the read.
+--     ShowsTick       that STATE shows what was in force in a tick, and whether it latched a pattern
+-- The lines and the latched trigger are those of the latest tick that ran, as are the acknowledges, as they were in force in it
+-- ([Test.7b]); all else, the enabled controllers too, is the record as it stands at the read.
 -- Own rules of 02 used here: none. Decisions: R6. Left out: nothing.
 -- Assumes nothing.
 use Prim.Native.Nat.{ℕ, _+_, _*_}
@@ -113,7 +113,7 @@ latestTickIn s = record { kept = s .core .latest; acks = s .readout .acks }
 abbrev pub hasLatched : Masks → Bool
 hasLatched m = isSome (m .rejected) || isSome (m .accepted)
 
--- [State.3] [State.6] [State.7] STATE of the record s shows what a tick brought, and whether it latched a pattern
+-- [State.3] [State.6] [State.7] STATE of the record s shows what was in force in a tick, and whether it latched a pattern
 pub record ShowsTick (x : Inputs) (masks : Masks) (s : Supervisor) : Type 0 where
   pub pass2 : bitAt (stateOf s) 2 ≡ hasPass2 (x .lines)
   pub fail2 : bitAt (stateOf s) 3 ≡ hasFail2 (x .lines)

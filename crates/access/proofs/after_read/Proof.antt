@@ -39,6 +39,10 @@ returns-7 : tie.Need-returns-7
 unfolding afterReadOf
 returns-7 c = rw (c .enum-told5 .given .1)
 
+returns-8 : tie.Need-returns-8
+unfolding afterReadOf
+returns-8 c = rw (c .enum-told6 .given .1)
+
 pub after-read-spec : {M : Type 1} → statement M
 after-read-spec =
     tie.close
@@ -52,9 +56,11 @@ after-read-spec =
     (λ c. search needs)
     (λ c. search needs)
     (λ c. search needs)
+    (λ c. search needs)
     returns-2
     returns-3
     returns-4
     returns-5
     returns-6
-    returns-7)
+    returns-7
+    returns-8)

@@ -29,6 +29,10 @@ returns-6 : tie.Need-returns-6
 unfolding baseOf
 returns-6 c = rw (c .enum-told5 .given .1)
 
+returns-7 : tie.Need-returns-7
+unfolding baseOf
+returns-7 c = rw (c .enum-told6 .given .1)
+
 pub base-spec : {M : Type 1} → statement M
 base-spec =
     tie.close
@@ -40,9 +44,11 @@ base-spec =
     (λ c. search needs)
     (λ c. search needs)
     (λ c. search needs)
+    (λ c. search needs)
     returns
     returns-2
     returns-3
     returns-4
     returns-5
-    returns-6)
+    returns-6
+    returns-7)

@@ -29,6 +29,10 @@ returns-6 : tie.Need-returns-6
 unfolding shownOf
 returns-6 c = rw (c .enum-told4 .given .1)
 
+returns-7 : tie.Need-returns-7
+unfolding shownOf
+returns-7 c = rw (c .enum-told5 .given .1)
+
 pub shown-spec : {M : Type 1} → statement M
 shown-spec =
     tie.close
@@ -42,9 +46,11 @@ shown-spec =
     (λ c. search needs)
     (λ c κs. search needs)
     (λ c. search needs)
+    (λ c. search needs)
     returns
     returns-2
     returns-3
     returns-4
     returns-5
-    returns-6)
+    returns-6
+    returns-7)

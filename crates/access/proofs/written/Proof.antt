@@ -27,7 +27,11 @@ returns-5 c = rw (c .enum-told3 .given .1)
 
 returns-6 : tie.Need-returns-6
 unfolding writtenOf
-returns-6 c = rw (c .enum-told4 .given .1)
+returns-6 c = rw (c .test-written .ensures, c .before .enum-told4 .given .1)
+
+returns-7 : tie.Need-returns-7
+unfolding writtenOf
+returns-7 c = rw (c .enum-told5 .given .1)
 
 pub written-spec : {M : Type 1} → statement M
 written-spec =
@@ -43,9 +47,12 @@ written-spec =
     (λ c κs. search needs)
     (λ c. search needs)
     (λ c. search needs)
+    (λ c κs. search needs)
+    (λ c. search needs)
     returns
     returns-2
     returns-3
     returns-4
     returns-5
-    returns-6)
+    returns-6
+    returns-7)
