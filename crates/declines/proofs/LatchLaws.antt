@@ -26,14 +26,14 @@ use Rattle.registers.specs.declared.csr.Request.the-variants.{Nothing, Reset, I
 use Rattle.registers.specs.declared.register.Setting.{Setting}
 use Rattle.registers.specs.declared.register.Setting.the-variants.{Control, Factor, RocEnable, Interval, Timer}
 use Rattle.registers.specs.declared.register.Register.{Register}
-use Rattle.registers.specs.declared.register.Register.the-variants.{Csr, Scaler, Assign, State, Absent}
+use Rattle.registers.specs.declared.register.Register.the-variants.{Csr, Scaler, Assign, State, Test, Absent}
 use Rattle.registers.specs.declared.register.Register.the-variants as register
 use Rattle.registers.proofs.RegistersLaws.{InRange, numbered-is-in-range}
 use Rattle.scalers.specs.Scalers as scalers
 use Rattle.scalers.specs.Scalers.{latchOf, latchedOf, zeroedOf}
 use Rattle.scalers.specs.declared.Scalers.{Scalers}
 use Rattle.core.specs.Core as core
-use Rattle.supervisor.specs.Supervisor.{freshOf, resetOf, initializedOf, isActiveOf, isSpoiledOf, tickedOf, joinedOf}
+use Rattle.supervisor.specs.Supervisor.{freshOf, resetOf, initializedOf, isActiveOf, isSpoiledOf, ranOf, joinedOf}
 use Rattle.supervisor.specs.Supervisor.{coreStepOf}
 use Rattle.supervisor.specs.declared.Supervisor.{Supervisor}
 use Rattle.access.specs.Access.{afterCsrOf, csrWrittenOf, settingWrittenOf, writtenOf, baseOf, mergedOf}
@@ -44,7 +44,7 @@ use Rattle.declines.specs.Calls.{markedOf, writeRunOf, readRunOf, writeB
 use Rattle.declines.specs.Runs.{Ask, writeRegister, readRegister, plainRead, askOf, callOf, everyAsk}
 use Rattle.declines.specs.Latches.{cutReply, isScaler, latchAt, scalerAt, withLatched, withoutLatches, scalerNumber}
 use Rattle.declines.specs.Latches.{isInitialize, writeLeavesLatch, readLeavesLatch, leavesLatch, LatchStands}
-use Rattle.declines.proofs.CallEnds.{End, refused, refusedActive, wrote, read, gave, stored, ran, call-ends}
+use Rattle.declines.proofs.CallEnds.{End, refused, refusedActive, wrote, read, gave, stored, ran, held, call-ends}
 
 -- ---- what a read leaves and gives
 
@@ -65,6 +65,7 @@ module _ (s : Supervisor) where
   after-read-leaves-rest (Scaler n) false = refl
   after-read-leaves-rest Assign latches = refl
   after-read-leaves-rest State latches = refl
+  after-read-leaves-rest Test latches = refl
   after-read-leaves-rest Absent latches = refl
 
   -- [Declines.3b] as amended by [Bytes.5a]
@@ -88,6 +89,7 @@ module _ (s : Supervisor) where
   other-read-leaves (Scaler n) h latches = cc
   other-read-leaves Assign h latches = refl
   other-read-leaves State h latches = refl
+  other-read-leaves Test h latches = refl
   other-read-leaves Absent h latches = refl
 
   -- [Bytes.7] a part of such a register is its bytes in the plain read, declined ones too
@@ -189,6 +191,7 @@ module _ (n : ℕ) (below : n < 2) (s : Supervisor) where
       by-cond Leaves (hasByte3 run) (λ e. zeroed-leaves-latch n m (s .core .scalers)) (λ e. refl)
   write-leaves Assign run v h = refl
   write-leaves State run v h = refl
+  write-leaves Test run v h = refl
   write-leaves Absent run v h = refl
 
   read-leaves : (r : Register) → InRange r → (run : Run) → readLeavesLatch n r run ≡ true
@@ -203,18 +206,20 @@ module _ (n : ℕ) (below : n < 2) (s : Supervisor) where
       go false e l = latched-leaves-other n m below (omega (arith, range .most)) e (s .core .scalers)
   read-leaves Assign range run h = refl
   read-leaves State range run h = refl
+  read-leaves Test range run h = refl
   read-leaves Absent range run h = refl
 
   end-leaves : {memory : List ℕ} {a : Ask} {reply : Reply} {next : Supervisor} → leavesLatch n a ≡ true
       → End memory s a reply next → Leaves next
-  unfolding markedOf tickedOf joinedOf coreStepOf core.stepOf core.settledOf scalers.countedOf
+  unfolding markedOf ranOf joinedOf coreStepOf core.stepOf core.settledOf scalers.countedOf
   end-leaves h (refused a k g) = refl
   end-leaves h (refusedActive a) = refl
   end-leaves h (wrote number run v valid) = write-leaves (numberedOf number) run v h
   end-leaves h (read number run v) = read-leaves (numberedOf number) (numbered-is-in-range number) run h
   end-leaves h (gave place v) = refl
   end-leaves h (stored place word) = refl
-  end-leaves h (ran x clean) = refl
+  end-leaves h (ran x clean runs) = refl
+  end-leaves h (held x stands) = refl
 
 -- [Bytes.5a] [Bytes.5b]
 pub latch-stands : LatchStands

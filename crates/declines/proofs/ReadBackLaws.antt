@@ -16,7 +16,7 @@ use Rattle.registers.specs.Registers.{numberedOf, isValidValue, isValidSetting,
 use Rattle.registers.specs.declared.register.Setting.{Setting}
 use Rattle.registers.specs.declared.register.Setting.the-variants.{Control, Factor, RocEnable, Interval, Timer}
 use Rattle.registers.specs.declared.register.Register.{Register}
-use Rattle.registers.specs.declared.register.Register.the-variants.{Csr, Scaler, Assign, State, Absent}
+use Rattle.registers.specs.declared.register.Register.the-variants.{Csr, Scaler, Assign, State, Test, Absent}
 use Rattle.registers.specs.declared.register.Register.the-variants as register
 use Rattle.registers.proofs.RegistersLaws.{Between, SettingInRange, InRange, numbered-is-in-range}
 use Rattle.prescaler.specs.PrescalerFields.{factorAt}
@@ -28,7 +28,7 @@ use Rattle.timers.specs.declared.Timers.{Timers}
 use Rattle.supervisor.specs.declared.Supervisor.{Supervisor}
 use Rattle.access.specs.Access.{settingWrittenOf, writtenOf, settingOf, baseOf, mergedOf, shownOf}
 use Rattle.declines.specs.Answers.{Reply, done}
-use Rattle.declines.specs.Runs.{Ask, writeRegister, askOf}
+use Rattle.declines.specs.Runs.{writeRegister, askOf}
 use Rattle.declines.specs.Latches.{keepsValue}
 use Rattle.declines.proofs.CallEnds.{End, refused, refusedActive, wrote, call-ends}
 
@@ -83,6 +83,7 @@ module _ (s : Supervisor) (eight : EightPlaces (s .core .prescalers)) (loads : B
   register-read-back (Scaler n) range kept h = cc
   register-read-back Assign range kept h = refl
   register-read-back State range kept h = cc
+  register-read-back Test range kept h = cc
   register-read-back Absent range kept h = cc
 
 -- [Bytes.3a] the bytes that a write lacks are those that a read shows
@@ -93,6 +94,7 @@ base-is-shown (register.Setting r) kept s = refl
 base-is-shown (Scaler n) kept s = cc
 base-is-shown Assign kept s = refl
 base-is-shown State kept s = cc
+base-is-shown Test kept s = cc
 base-is-shown Absent kept s = cc
 
 -- ---- a write that was carried out

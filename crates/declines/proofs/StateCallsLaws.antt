@@ -1,11 +1,11 @@
 -- The calls on STATE, and what a record keeps for it: what a bystander finds of the latest tick in the log.
 --     state-is-read, state-is-not-written   a read is answered, a write gets 3
---     end-keeps-latest       what is kept, however a call ends
+--     end-keeps-seen         what is kept, and the modes, however a call ends
 --     every-run-keeps-the-latest-tick   .. and after every list of calls
 -- Assumes nothing.
 use Prim.Native.Nat.{ℕ}
-use mathlib.Core.Path.{_≡_, refl, ap, _∙_}
-use mathlib.Core.Bool.{Bool, true, false}
+use mathlib.Core.Path.{_≡_, refl, ap}
+use mathlib.Core.Bool.{Bool, true, false, cond}
 use mathlib.Core.List.{List}
 use Rattle.bits.proofs.TestLaws.{by-cond}
 use Rattle.run.specs.Run.{isRunOf, hasByte3, overlaidOf}
@@ -18,23 +18,29 @@ use Rattle.registers.specs.declared.csr.Request.the-variants.{Nothing, Reset, I
 use Rattle.registers.specs.declared.register.Setting.{Setting}
 use Rattle.registers.specs.declared.register.Setting.the-variants.{Control, Factor, RocEnable, Interval, Timer}
 use Rattle.registers.specs.declared.register.Register.{Register}
-use Rattle.registers.specs.declared.register.Register.the-variants.{Csr, Scaler, Assign, State, Absent}
+use Rattle.registers.specs.declared.register.Register.the-variants.{Csr, Scaler, Assign, State, Test, Absent}
 use Rattle.registers.specs.declared.register.Register.the-variants as register
 use Rattle.branches.specs.Readout as readout
+use Rattle.trigger.specs.declared.lines.Inputs.{Inputs}
+use Rattle.testing.proofs.TestingLaws.{in-force-by}
 use Rattle.core.specs.Core as core
-use Rattle.supervisor.specs.Supervisor.{freshOf, initializedOf, resetOf, tickedOf, joinedOf, coreStepOf, readoutStepOf}
-use Rattle.supervisor.specs.Supervisor.{isSpoiledOf}
+use Rattle.supervisor.specs.Supervisor.{freshOf, initializedOf, resetOf, joinedOf, coreStepOf, readoutStepOf}
+use Rattle.supervisor.specs.Supervisor.{ranOf, inForceOf, isHeldOf, isSpoiledOf}
 use Rattle.supervisor.specs.declared.Supervisor.{Supervisor}
-use Rattle.state.specs.State.{stateOf, latestTickIn}
+use Rattle.state.specs.State.{stateOf, LatestTick, latestTickIn}
 use Rattle.access.specs.Access.{afterCsrOf, csrWrittenOf, settingWrittenOf, writtenOf, baseOf, mergedOf}
 use Rattle.access.specs.Access.{requestedBy, afterReadOf, shownOf}
 use Rattle.declines.specs.Answers.{Reply, declined, value}
 use Rattle.declines.specs.Calls.{markedOf, readRunOf, writeBytesOf, readBytesOf}
-use Rattle.declines.specs.Runs.{Ask, writeRegister, plainRead, askOf, Entry}
-use Rattle.declines.specs.Follow.{afterCall, afterLog}
-use Rattle.declines.specs.LatestTick.{afterRequest, afterWrite, rules, KeepsTheLatestTick}
-use Rattle.declines.proofs.CallEnds.{End, refused, refusedActive, wrote, read, gave, stored, ran}
-use Rattle.declines.proofs.CallEnds.{Chain, stop, then, run-is-chain}
+use Rattle.declines.specs.Runs.{Ask, writeRegister, plainRead, askOf}
+use Rattle.declines.specs.Follow.{afterCall}
+use Rattle.declines.specs.Modes.{Modes, runs, modesIn}
+use Rattle.declines.specs.LatestTick.{Seen, afterRequest, tickAfterWrite, tickSeen, rules, KeepsTheLatestTick}
+use Rattle.declines.proofs.CallEnds.{End, refused, refusedActive, wrote, read, gave, stored, ran, held}
+use Rattle.declines.proofs.CallEnds.{run-is-chain}
+use Rattle.declines.proofs.FollowLaws.{chain-follows}
+use Rattle.declines.proofs.ModesLaws.{runs-unless-held, write-keeps-modes, read-keeps-modes, marked-keeps-modes}
+use Rattle.declines.proofs.ModesLaws.{ran-keeps-modes, held-keeps-modes}
 
 -- ---- the calls
 
@@ -51,6 +57,16 @@ unfolding writeBytesOf numberedOf
 state-is-not-written run v memory s clean = rw clean
 
 -- ---- what is kept
+
+-- what a bystander sees of a record
+abbrev sees : Modes → LatestTick → Seen
+sees m t = record { modes = m; tick = t }
+
+abbrev seen : Supervisor → Seen
+seen s = sees (modesIn s) (latestTickIn s)
+
+both : {m n : Modes} {t u : LatestTick} → m ≡ n → t ≡ u → sees m t ≡ sees n u
+both p q = λ j. sees (p j) (q j)
 
 module _ (s : Supervisor) where
   -- [CSRWrite.1] [CSRWrite.2d]
@@ -69,13 +85,14 @@ module _ (s : Supervisor) where
   setting-keeps (Timer n) loads v = refl
 
   write-keeps : (r : Register) (run : Run) (v : ℕ)
-      → latestTickIn (writtenOf r (hasByte3 run) (mergedOf r run v s) s) ≡ afterWrite r run v (latestTickIn s)
+      → latestTickIn (writtenOf r (hasByte3 run) (mergedOf r run v s) s) ≡ tickAfterWrite r run v (latestTickIn s)
   unfolding writtenOf baseOf csrWrittenOf csr.writtenOf
   write-keeps Csr run v = request-keeps (requestedBy run v) _
   write-keeps (register.Setting r) run v = setting-keeps r (hasByte3 run) _
   write-keeps (Scaler n) run v = by-cond (λ (next : Supervisor). latestTickIn next ≡ latestTickIn s) (hasByte3 run) (λ e. refl) (λ e. refl)
   write-keeps Assign run v = refl
   write-keeps State run v = refl
+  write-keeps Test run v = refl
   write-keeps Absent run v = refl
 
   -- [Bytes.5a] a read may change a latch
@@ -87,25 +104,41 @@ module _ (s : Supervisor) where
   read-keeps (Scaler n) false = refl
   read-keeps Assign latches = refl
   read-keeps State latches = refl
+  read-keeps Test latches = refl
   read-keeps Absent latches = refl
 
-  -- [State.3]
-  pub end-keeps-latest : {memory : List ℕ} {a : Ask} {reply : Reply} {next : Supervisor} → End memory s a reply next
-      → latestTickIn next ≡ afterCall rules a reply (latestTickIn s)
-  unfolding markedOf tickedOf joinedOf coreStepOf readoutStepOf core.stepOf core.settledOf readout.stepOf
-  end-keeps-latest (refused a n h) = refl
-  end-keeps-latest (refusedActive a) = refl
-  end-keeps-latest (wrote number run v valid) = write-keeps (numberedOf number) run v
-  end-keeps-latest (read number run v) = read-keeps (numberedOf number) (hasByte3 run)
-  end-keeps-latest (gave place v) = refl
-  end-keeps-latest (stored place word) = refl
-  end-keeps-latest (ran x clean) = refl
+  -- [State.3] [Test.7b]
+  ran-is-latest : (memory : List ℕ) (x : Inputs) → isHeldOf s ≡ false
+      → latestTickIn (ranOf memory (inForceOf x s) s .next)
+      ≡ cond (runs (modesIn s)) (tickSeen (modesIn s) x (ranOf memory (inForceOf x s) s .answer)) (latestTickIn s)
+  unfolding ranOf joinedOf coreStepOf readoutStepOf core.stepOf core.settledOf readout.stepOf inForceOf
+  ran-is-latest memory x unheld =
+      let c = s .core in
+      rw (
+        runs-unless-held s,
+        unheld,
+        ← in-force-by (λ (y : Inputs). y .lines) (c .csr) (c .control) (c .test) x,
+        ← in-force-by (λ (y : Inputs). y .acks) (c .csr) (c .control) (c .test) x,
+      )
 
-chain-keeps-latest : {log : List Entry} {s last : Supervisor} → Chain log s last → latestTickIn last ≡ afterLog rules log (latestTickIn s)
-chain-keeps-latest stop = refl
-chain-keeps-latest (then {log = log} {s = s} end rest) = chain-keeps-latest rest ∙ ap (afterLog rules log) (end-keeps-latest s end)
+  end-keeps-seen : {memory : List ℕ} {a : Ask} {reply : Reply} {next : Supervisor} → End memory s a reply next
+      → seen next ≡ afterCall rules a reply (seen s)
+  unfolding markedOf
+  end-keeps-seen (refused a n h) = refl
+  end-keeps-seen (refusedActive a) = both (marked-keeps-modes s _) refl
+  end-keeps-seen (wrote number run v valid) =
+      both (write-keeps-modes s (numberedOf number) run v) (write-keeps (numberedOf number) run v)
+  end-keeps-seen (read number run v) =
+      both (read-keeps-modes s (numberedOf number) (hasByte3 run)) (read-keeps (numberedOf number) (hasByte3 run))
+  end-keeps-seen (gave place v) = refl
+  end-keeps-seen (stored place word) = refl
+  end-keeps-seen {memory = memory} (ran x clean unheld) =
+      both (ran-keeps-modes s memory _ unheld) (ran-is-latest memory x unheld)
+  end-keeps-seen (held x stands) = both (held-keeps-modes s stands) (rw (runs-unless-held s, stands))
 
 -- [State.3]
 pub every-run-keeps-the-latest-tick : (branches : ℕ) → KeepsTheLatestTick branches
 unfolding freshOf core.freshOf
-every-run-keeps-the-latest-tick n calls = chain-keeps-latest (run-is-chain calls (freshOf n))
+every-run-keeps-the-latest-tick n calls =
+    ap (λ (z : Seen). z .tick)
+    (chain-follows rules seen (λ memory s a reply next end. end-keeps-seen s end) (run-is-chain calls (freshOf n)))

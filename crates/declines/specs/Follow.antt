@@ -1,6 +1,6 @@
 -- What a bystander follows through a log of asks and replies, whatever it is that he keeps: a register write that was
--- carried out and a tick that ran change it, by rules of his own; every other call leaves it.
---     document 01    "The account of demand 3"; document 02, N4
+-- carried out and a tick that was, run or held, change it, by rules of his own; every other call leaves it.
+--     document 01    "The account of demand 3"; document 02, N4 and N5
 --     Rules          how the two change what he keeps
 --     afterCall      what he keeps after a call
 --     afterLog       .. and after a whole log; by its type it sees neither record nor memory
@@ -18,7 +18,7 @@ use Rattle.declines.specs.Runs.{Ask, writeRegister, readRegister, writeM
 
 pub record Rules (A : Type 0) : Type 0 where
   pub wrote : Register → Run → (v : ℕ) → A → A
-  pub ran : Inputs → Answer → A → A
+  pub ticked : Inputs → Answer → A → A
 
 -- [Account.5] of the calls that end in "done" a register write alone counts
 abbrev pub afterDone : {A : Type 0} → Rules A → Ask → A → A
@@ -33,7 +33,7 @@ afterTicked rules (writeRegister number run v) y a = a
 afterTicked rules (readRegister number run) y a = a
 afterTicked rules (writeMemory place word) y a = a
 afterTicked rules (readMemory place) y a = a
-afterTicked rules (tick x) y a = rules .ran x y a
+afterTicked rules (tick x) y a = rules .ticked x y a
 
 -- [Account.5] a decline and a value read leave it alone, whatever was asked
 abbrev pub afterCall : {A : Type 0} → Rules A → Ask → Reply → A → A

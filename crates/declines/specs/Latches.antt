@@ -20,7 +20,7 @@ use Rattle.registers.specs.Registers.{numberedOf}
 use Rattle.registers.specs.declared.csr.Request.{Request}
 use Rattle.registers.specs.declared.csr.Request.the-variants.{Nothing, Reset, Initialize}
 use Rattle.registers.specs.declared.register.Register.{Register}
-use Rattle.registers.specs.declared.register.Register.the-variants.{Csr, Setting, Scaler, Assign, State, Absent}
+use Rattle.registers.specs.declared.register.Register.the-variants.{Csr, Setting, Scaler, Assign, State, Test, Absent}
 use Rattle.scalers.specs.ScalersFields.{withLatch0, withLatch1}
 use Rattle.scalers.specs.Scalers.{latchedOf, latchOf}
 use Rattle.core.specs.CoreFields.{withScalers}
@@ -47,6 +47,7 @@ isScaler (Setting r) = false
 isScaler (Scaler n) = true
 isScaler Assign = false
 isScaler State = false
+isScaler Test = false
 isScaler Absent = false
 
 -- [Declines.3b] registers 1–16 and assign: what is written is what is read
@@ -56,6 +57,7 @@ keepsValue (Setting r) = true
 keepsValue (Scaler n) = false
 keepsValue Assign = true
 keepsValue State = false
+keepsValue Test = false
 keepsValue Absent = false
 
 -- ---- a scaler and its latch
@@ -93,6 +95,7 @@ writeLeavesLatch (Setting r) run v = true
 writeLeavesLatch (Scaler n) run v = true
 writeLeavesLatch Assign run v = true
 writeLeavesLatch State run v = true
+writeLeavesLatch Test run v = true
 writeLeavesLatch Absent run v = true
 
 -- [Bytes.5a] only a read of that scaler with BYTE(3) changes it
@@ -102,6 +105,7 @@ readLeavesLatch n (Setting r) run = true
 readLeavesLatch n (Scaler m) run = not (eqb m n && hasByte3 run)
 readLeavesLatch n Assign run = true
 readLeavesLatch n State run = true
+readLeavesLatch n Test run = true
 readLeavesLatch n Absent run = true
 
 abbrev pub leavesLatch : (n : ℕ) → Ask → Bool
