@@ -1,7 +1,8 @@
-// The public calls (document 01, "When a call is declined"; document 02, N4). Each takes the record by value, refuses bad
+// The public calls (document 01, "When a call is declined"; document 02, N4, N5). Each takes the record by value, refuses bad
 // input by itself, and hands back the next record with its answer. No call has a `requires`; each contract is an equality
 // with a definition of crate `declines`, for every record and every memory; `write_memory` has one more, for the memory.
 ghost use mathlib.Core.Path.{_≡_};
+ghost use Rattle.declines.specs.Calls.{isGuardedOf};
 ghost use Rattle.declines.specs.Calls.{writeRunOf, readRunOf, writeRegisterOf, readRegisterOf, writeBytesOf, readBytesOf};
 ghost use Rattle.declines.specs.Calls.{writeMemoryOf, memoryAfterOf, readMemoryOf, tickOf};
 use access::after_read;
@@ -50,12 +51,20 @@ fn wide(word: u16) -> u32
 
 // ---- register calls
 
+// [Declines.2c] [Test.2] the register is not written while the record is active
+fn is_guarded(s: Supervisor, register: Register) -> bool
+    ensures { λ r. ⌜ r ≡ isGuardedOf register s ⌝ }
+{
+    let facts = register.facts();
+    let csr = s.core.csr;
+    facts.protected & !(facts.opened & csr.is_test_mode())
+}
+
 // [Declines.2c] [Declines.2d] the rest of a write: a register that may be written, and a run of its bytes
 fn write_run(s: Supervisor, register: Register, run: Run, value: u32) -> WriteDone
     ensures { λ r. ⌜ r ≡ writeRunOf register run value s ⌝ }
 {
-    let facts = register.facts();
-    if s.is_active() & facts.protected {
+    if s.is_active() & is_guarded(s, register) {
         return refused(marked(s, Csr::WRITE_ERROR), Decline::Active);
     }
     let word = merged(s, register, run, value);

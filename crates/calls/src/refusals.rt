@@ -89,10 +89,8 @@ pub fn refused_tick(s: Supervisor, why: Decline) -> TickDone
         outcome: Outcome::Nothing,
         sides: [none, none, none, none],
     };
-    let readout = s.readout;
     TickDone {
-        // as it is: a plain copy would have every tick carry the bytes between the fields
-        next: s.with_readout(readout.rebuilt()),
+        next: s.rebuilt(),
         answer,
         verdict: Verdict::Declined(why),
     }

@@ -12,7 +12,7 @@ returns c =
       c .refused .ensures,
       c .before .marked .ensures,
       ← c .before .before .before .before .is-active .ensures,
-      ← c .before .before .before .before .before .facts .ensures,
+      ← c .before .before .before .is-guarded .ensures,
       c .before .before .if1 .taken,
     )
 
@@ -23,9 +23,9 @@ returns-2 c =
       c .refused2 .ensures,
       ← c .before .before .before .merged .ensures,
       ← c .before .before .before .before .before .before .is-active .ensures,
-      ← c .before .before .before .before .before .before .before .facts .ensures,
       ← c .before .before .is-valid-value .ensures,
       c .before .if2 .taken,
+      ← c .before .before .before .before .before .is-guarded .ensures,
       c .before .before .before .before .if1 .left,
     )
 
@@ -37,9 +37,9 @@ returns-3 c =
       c .before .has-byte-3 .ensures,
       ← c .before .before .before .before .merged .ensures,
       ← c .before .before .before .before .before .before .before .is-active .ensures,
-      ← c .before .before .before .before .before .before .before .before .facts .ensures,
       ← c .before .before .before .is-valid-value .ensures,
       c .before .before .if2 .left,
+      ← c .before .before .before .before .before .before .is-guarded .ensures,
       c .before .before .before .before .before .if1 .left,
     )
 
