@@ -1,12 +1,14 @@
 -- What holds of the record and the account after every call: the invariant behind demand 3.
--- It has four groups, each over just what it reads of the core, the branches and the account: a call that leaves those
+-- It has five groups, each over just what it reads of the core, the branches and the account: a call that leaves those
 -- alone hands the group on. Nothing of it speaks of "spoiled": a call on a spoiled record changes neither record nor
 -- account, and on any other record the test itself gives what a tick needs.
 --     SettingsFollow     control, the prescalers, and the account's settings and passes
+--     ModesFollow        the two modes and what waits of TEST
 --     PulsesFollow       the masks' sums: AddsUp, for each input
 --     EventsFollow       main's state and the account's events
 --     BranchesFollow     the branches and the account's words: Ordering, for each branch
---     Invariant          the four, of a core, a list of branches and an account
+--     with-modes         the others handed on where the modes change
+--     Invariant          the five, of a core, a list of branches and an account
 -- Assumes nothing.
 use Prim.Native.Nat.{ℕ, _+_, _<_, _≤_}
 use mathlib.Core.Path.{_≡_}
@@ -25,6 +27,7 @@ use Rattle.branches.specs.ReadoutFields.{branchAt}
 use Rattle.sequencer.specs.States.{isUndecided}
 use Rattle.sequencer.specs.declared.states.State.{State}
 use Rattle.core.specs.declared.Core.{Core}
+use Rattle.declines.specs.Modes.{Modes, modesOf}
 use Rattle.account.specs.AccountFields.{Settings, Passes, Sums, Events, Account}
 
 pub record SettingsFollow (enables : ℕ) (b : Prescalers) (s : Settings) (q : Passes) : Type 0 where
@@ -36,6 +39,10 @@ pub record SettingsFollow (enables : ℕ) (b : Prescalers) (s : Settings) (q : P
   pub factors : (i : ℕ) → s .factor i ≡ factorAt b i
   -- needed by every pulse: its division is p; [Bytes.10a] where that is owed
   pub count : (i : ℕ) → i < inputs → s .owed i ≡ true → PassCount (q .n i) (q .p i) (counterAt b i) (factorAt b i)
+
+-- needed by every tick: whether it runs, and which pulses count
+abbrev pub ModesFollow : Core → Modes → Type 0
+ModesFollow c m = m ≡ modesOf c
 
 -- each counted pulse is in exactly one mask
 abbrev pub AddsUp : Sums → (i : ℕ) → Type 0
@@ -65,13 +72,19 @@ pub record BranchesFollow (branches : ℕ) (bs : List Branch) (finished : ℕ �
     -- needed by every load and every finished word
     pub ordering : (k : ℕ) → k < branches → Ordering (branchAt bs k) (finished k) loaded
 
-pub record Groups (Settings Pulses Events Branches : Type 0) : Type 0 where
+pub record Groups (Settings Modes Pulses Events Branches : Type 0) : Type 0 where
   pub settings : Settings
+  pub modes : Modes
   pub pulses : Pulses
   pub events : Events
   pub branches : Branches
 
+-- a call that changes the modes alone
+pub with-modes : {S M N P E B : Type 0} → Groups S M P E B → N → Groups S N P E B
+with-modes g modes =
+    record { settings = g .settings; modes = modes; pulses = g .pulses; events = g .events; branches = g .branches }
+
 abbrev pub Invariant : (branches : ℕ) → Core → List Branch → Account → Type 0
 Invariant branches c bs a =
-    Groups (SettingsFollow (c .control .word) (c .prescalers) (a .settings) (a .passes)) (PulsesFollow (a .sums))
-    (EventsFollow (c .main .state) (a .events)) (BranchesFollow branches bs (a .finished) (a .words) (a .events))
+    Groups (SettingsFollow (c .control .word) (c .prescalers) (a .settings) (a .passes)) (ModesFollow c (a .modes))
+    (PulsesFollow (a .sums)) (EventsFollow (c .main .state) (a .events)) (BranchesFollow branches bs (a .finished) (a .words) (a .events))

@@ -2,6 +2,7 @@
 pub mod Invariant
 pub mod WriteLaw
 pub mod TickLaw
+pub mod HeldLaw
 pub mod Theorem
 pub mod OwedLaw
 pub mod OwedExamples

@@ -6,7 +6,7 @@
 --     pass-count-is-owed, load-owes   n div (F + 1) passed
 -- Assumes nothing.
 use Prim.Native.Nat.{ℕ, _-_}
-use mathlib.Core.Path.{_≡_, refl, ap, sym, _∙_}
+use mathlib.Core.Path.{_≡_, refl}
 use mathlib.Core.Bool.{Bool, true, false, not, _&&_, _||_}
 use mathlib.Core.List.{List, [], _∷_, _++_}
 use lib.Dec.{eqb}
@@ -17,7 +17,7 @@ use Rattle.registers.specs.Registers.{numberedOf}
 use Rattle.registers.specs.declared.csr.Request.{Request}
 use Rattle.registers.specs.declared.csr.Request.the-variants.{Nothing, Reset, Initialize}
 use Rattle.registers.specs.declared.register.Register.{Register}
-use Rattle.registers.specs.declared.register.Register.the-variants.{Csr, Scaler, Assign, State, Absent}
+use Rattle.registers.specs.declared.register.Register.the-variants.{Csr, Scaler, Assign, State, Test, Absent}
 use Rattle.registers.specs.declared.register.Register.the-variants as register
 use Rattle.registers.specs.declared.register.Setting.{Setting}
 use Rattle.registers.specs.declared.register.Setting.the-variants.{Control, Factor, RocEnable, Interval, Timer}
@@ -28,11 +28,12 @@ use Rattle.declines.specs.Answers.{Reply, declined, done, value, ticked}
 use Rattle.declines.specs.Runs.{Ask, writeRegister, readRegister, writeMemory, readMemory, tick}
 use Rattle.declines.specs.Runs.{Call, callOf, recordAfter, everyAsk, logOf}
 use Rattle.declines.specs.Follow.{afterCall}
+use Rattle.declines.specs.Modes.{Modes}
 use Rattle.account.specs.AccountFields.{Account}
 use Rattle.account.specs.Account.{afterTick, afterRequest, afterFactor, afterSetting, afterWrite, rules, accountOf, start}
-use Rattle.account.specs.Demand3.{Demand3, Divides}
+use Rattle.account.specs.Demand3.{Demand3}
 use Rattle.account.specs.Owed.{isFactorOf, writesFactor, keepsFactor, requestLoads, registerLoads, loads}
-use Rattle.account.specs.Owed.{accountAfter, PassCountIsOwed, LoadOwes}
+use Rattle.account.specs.Owed.{PassCountIsOwed, LoadOwes}
 use Rattle.account.proofs.Theorem.{every-run-balances}
 
 module _ (i : ℕ) where
@@ -43,10 +44,10 @@ module _ (i : ℕ) where
   -- ---- one call that keeps the factor
 
   module _ (a : Account) (owed : Owed a) where
-    request-keeps-owed : (r : Request) → Owed (afterRequest r a)
-    request-keeps-owed Initialize = refl
-    request-keeps-owed Reset = refl
-    request-keeps-owed Nothing = owed
+    request-keeps-owed : (r : Request) (m : Modes) → Owed (afterRequest r m a)
+    request-keeps-owed Initialize m = refl
+    request-keeps-owed Reset m = refl
+    request-keeps-owed Nothing m = owed
 
     -- [Bytes.10a] another input's factor, or a load
     factor-keeps-owed : (k v : ℕ) (loaded : Bool) → (not (eqb i k) || loaded) ≡ true → Owed (afterFactor loaded k v a)
@@ -64,11 +65,12 @@ module _ (i : ℕ) where
 
     write-keeps-owed : (r : Register) (run : Run) (v : ℕ) → (not (writesFactor i r) || hasByte3 run) ≡ true
         → Owed (afterWrite r run v a)
-    write-keeps-owed Csr run v h = request-keeps-owed (requestedBy run v)
+    write-keeps-owed Csr run v h = request-keeps-owed (requestedBy run v) _
     write-keeps-owed (register.Setting r) run v h = setting-keeps-owed r run v h
     write-keeps-owed (Scaler n) run v h = owed
     write-keeps-owed Assign run v h = owed
     write-keeps-owed State run v h = owed
+    write-keeps-owed Test run v h = owed
     write-keeps-owed Absent run v h = owed
 
     pub call-keeps-owed : (ask : Ask) (reply : Reply) → keepsFactor i ask ≡ true → Owed (afterCall rules ask reply a)
@@ -89,10 +91,10 @@ module _ (i : ℕ) where
   -- ---- one call that loads the counter
 
   module _ (a : Account) where
-    request-makes-owed : (r : Request) → requestLoads r ≡ true → Owed (afterRequest r a)
-    request-makes-owed Initialize h = refl
-    request-makes-owed Reset h = refl
-    request-makes-owed Nothing h = cc
+    request-makes-owed : (r : Request) (m : Modes) → requestLoads r ≡ true → Owed (afterRequest r m a)
+    request-makes-owed Initialize m h = refl
+    request-makes-owed Reset m h = refl
+    request-makes-owed Nothing m h = cc
 
     factor-makes-owed : (k v : ℕ) (loaded : Bool) → (eqb i k && loaded) ≡ true → Owed (afterFactor loaded k v a)
     factor-makes-owed k v true h = rw (and-left (eqb i k) true h)
@@ -107,11 +109,12 @@ module _ (i : ℕ) where
     setting-makes-owed (Timer n) run v h = cc
 
     write-makes-owed : (r : Register) (run : Run) (v : ℕ) → registerLoads i r run v ≡ true → Owed (afterWrite r run v a)
-    write-makes-owed Csr run v h = request-makes-owed (requestedBy run v) h
+    write-makes-owed Csr run v h = request-makes-owed (requestedBy run v) _ h
     write-makes-owed (register.Setting r) run v h = setting-makes-owed r run v h
     write-makes-owed (Scaler n) run v h = cc
     write-makes-owed Assign run v h = cc
     write-makes-owed State run v h = cc
+    write-makes-owed Test run v h = cc
     write-makes-owed Absent run v h = cc
 
     pub load-makes-owed : (ask : Ask) → loads i ask ≡ true → Owed (afterCall rules ask done a)

@@ -18,14 +18,16 @@ use Rattle.declines.specs.Answers.{Reply}
 use Rattle.declines.specs.Calls.{markedOf}
 use Rattle.declines.specs.Runs.{Ask, Call, recordAfter, Entry, logOf}
 use Rattle.declines.specs.Follow.{afterCall}
-use Rattle.declines.proofs.CallEnds.{End, refused, refusedActive, wrote, read, gave, stored, ran}
+use Rattle.declines.proofs.CallEnds.{End, refused, refusedActive, wrote, read, gave, stored, ran, held}
 use Rattle.declines.proofs.CallEnds.{Chain, stop, then, run-is-chain}
+use Rattle.declines.proofs.ModesLaws.{marked-keeps-modes}
 use Rattle.account.specs.AccountFields.{Account}
 use Rattle.account.specs.Account.{start, rules, accountOf}
 use Rattle.account.specs.Demand3.{Balanced, Demand3, wordsOf}
-use Rattle.account.proofs.Invariant.{Invariant}
+use Rattle.account.proofs.Invariant.{Invariant, with-modes}
 use Rattle.account.proofs.WriteLaw.{fresh-has-invariant, write-keeps-invariant, read-keeps-invariant}
-use Rattle.account.proofs.TickLaw.{ticked-keeps-invariant}
+use Rattle.account.proofs.TickLaw.{ran-keeps-invariant}
+use Rattle.account.proofs.HeldLaw.{held-keeps-invariant}
 
 -- ---- one call, by how it ends
 
@@ -38,12 +40,13 @@ end-keeps-invariant : {branches : ℕ} {memory : List ℕ} {s : Supervisor} {ask
     (a : Account) → Kept branches s a → End memory s ask reply next → Kept branches next (afterCall rules ask reply a)
 unfolding markedOf
 end-keeps-invariant a v (refused ask n h) = v
-end-keeps-invariant a v (refusedActive ask) = v
+end-keeps-invariant {s = s} a v (refusedActive ask) = with-modes v (v .modes ∙ sym (marked-keeps-modes s _))
 end-keeps-invariant {s = s} a v (wrote number run x valid) = write-keeps-invariant s a v number run x
 end-keeps-invariant {s = s} a v (read number run n) = read-keeps-invariant s a v (numberedOf number) (hasByte3 run)
 end-keeps-invariant a v (gave place n) = v
 end-keeps-invariant a v (stored place word) = v
-end-keeps-invariant {memory = memory} {s = s} a v (ran x clean) = ticked-keeps-invariant memory x s clean a v
+end-keeps-invariant {memory = memory} {s = s} a v (ran x clean runs) = ran-keeps-invariant memory x s clean a runs v
+end-keeps-invariant {s = s} a v (held x stands) = held-keeps-invariant x s stands a v
 
 -- ---- the whole run
 

@@ -18,11 +18,12 @@ use Rattle.run.specs.declared.Run.{Run}
 use Rattle.registers.specs.Csr as csr
 use Rattle.registers.specs.Registers.{numberedOf}
 use Rattle.registers.specs.Control.{inputs}
+use Rattle.registers.specs.declared.csr.Csr as word
 use Rattle.registers.specs.declared.csr.CsrWrite.{CsrWrite}
 use Rattle.registers.specs.declared.csr.Request.{Request}
 use Rattle.registers.specs.declared.csr.Request.the-variants.{Nothing, Reset, Initialize}
 use Rattle.registers.specs.declared.register.Register.{Register}
-use Rattle.registers.specs.declared.register.Register.the-variants.{Csr, Scaler, Assign, State, Absent}
+use Rattle.registers.specs.declared.register.Register.the-variants.{Csr, Scaler, Assign, State, Test, Absent}
 use Rattle.registers.specs.declared.register.Register.the-variants as register
 use Rattle.registers.specs.declared.register.Setting.{Setting}
 use Rattle.registers.specs.declared.register.Setting.the-variants.{Control, Factor, RocEnable, Interval, Timer}
@@ -43,10 +44,13 @@ use Rattle.supervisor.specs.Supervisor.{freshOf, resetOf, initializedOf}
 use Rattle.supervisor.specs.declared.Supervisor.{Supervisor}
 use Rattle.access.specs.Access.{afterCsrOf, csrWrittenOf, settingWrittenOf, writtenOf, settingOf, baseOf, mergedOf}
 use Rattle.access.specs.Access.{requestedBy, afterReadOf}
-use Rattle.account.specs.AccountFields.{Settings, Passes, Account}
-use Rattle.account.specs.Account.{noEvents, start, afterRequest, factorSet, passesLoaded, stillOwed}
+use Rattle.declines.specs.Modes as modes
+use Rattle.declines.specs.Modes.{Modes, modesOf, modesIn}
+use Rattle.declines.proofs.ModesLaws.{write-keeps-modes}
+use Rattle.account.specs.AccountFields.{Settings, Passes, Account, noEvents}
+use Rattle.account.specs.Account.{start, afterRequest, modesAfter, factorSet, passesLoaded, stillOwed}
 use Rattle.account.specs.Account.{afterFactor, afterSetting, afterWrite}
-use Rattle.account.proofs.Invariant.{SettingsFollow, Ordering, BranchesFollow, Invariant}
+use Rattle.account.proofs.Invariant.{SettingsFollow, Ordering, BranchesFollow, Invariant, with-modes}
 
 -- ---- fresh
 
@@ -80,6 +84,7 @@ fresh-has-invariant n =
         factors = λ i. sym (replicate-reads-zero prescaledInputs i);
         count = λ i h owed. load.fresh-has-pass-count i;
       };
+      modes = refl;
       pulses = λ i h. refl;
       events = record { balance = refl; decides = refl };
       branches = fresh-branches n;
@@ -159,10 +164,11 @@ module _ (b : Prescalers) {control : ℕ} {s : Settings} {q : Passes} (v : Setti
 -- ---- RESET and INITIALIZE
 
 module _ {branches : ℕ} (c : Core) (bs : List Branch) (a : Account) (v : Invariant branches c bs a) where
-  -- [CSRWrite.2d] [Account.9]
-  reset-keeps-invariant : Invariant branches (core.resetOf c) (freshBranches (length bs)) (afterRequest Reset a)
+  -- [CSRWrite.2d] [Account.9] [Test.8b] the write has set the CSR before
+  reset-keeps-invariant : (w : word.Csr) (m : Modes) → m ≡ modesOf (c ▷ withCsr w ▷ core.resetOf)
+      → Invariant branches (c ▷ withCsr w ▷ core.resetOf) (freshBranches (length bs)) (afterRequest Reset m a)
   unfolding core.resetOf
-  reset-keeps-invariant =
+  reset-keeps-invariant w m modes =
       record {
         settings = record {
           control = v .settings .control;
@@ -170,6 +176,7 @@ module _ {branches : ℕ} (c : Core) (bs : List Branch) (a : Account) (v : Invar
           factors = v .settings .factors;
           count = λ i h owed. load.reloaded-has-pass-count (c .prescalers) i;
         };
+        modes = modes;
         pulses = λ i h. refl;
         events = record { balance = refl; decides = refl };
         branches = rw (v .branches .number) (fresh-branches branches);
@@ -189,12 +196,19 @@ module _ {branches : ℕ} (s : Supervisor) (a : Account) (v : Invariant branches
   abbrev after : (Supervisor → Supervisor) → Account → Type 0
   after f b = Invariant branches (f s .core) (f s .readout .branches) b
 
-  -- [CSRWrite.1] [CSRWrite.2d]: a CSR write by itself changes nothing that the account follows
-  request-keeps-invariant : (q : Request) (w : CsrWrite) → after (afterCsrOf q w) (afterRequest q a)
+  -- [Test.9] the record's modes after a write are those that the account follows
+  modes-after : (r : Register) (run : Run) (x : ℕ)
+      → modesAfter r run x a ≡ modesIn (writtenOf r (hasByte3 run) (mergedOf r run x s) s)
+  modes-after r run x = ap (modes.afterWrite r run x) (v .modes) ∙ sym (write-keeps-modes s r run x)
+
+  -- [CSRWrite.1] [CSRWrite.2d]: but for the modes a CSR write by itself changes nothing that the account follows
+  request-keeps-invariant : (q : Request) (w : CsrWrite) (m : Modes) → m ≡ modesIn (afterCsrOf q w s)
+      → after (afterCsrOf q w) (afterRequest q m a)
   unfolding initializedOf resetOf emptiedOf
-  request-keeps-invariant Initialize w = rw (v .branches .number) (fresh-has-invariant branches)
-  request-keeps-invariant Reset w = reset-keeps-invariant (s .core ▷ withCsr (w .next)) (s .readout .branches) a v
-  request-keeps-invariant Nothing w = v
+  request-keeps-invariant Initialize w m modes = rw (v .branches .number) (fresh-has-invariant branches)
+  request-keeps-invariant Reset w m modes =
+      reset-keeps-invariant (s .core) (s .readout .branches) a v (w .next) m modes
+  request-keeps-invariant Nothing w m modes = with-modes v modes
 
   -- the bank with a factor written, and the account after it
   factor-keeps-invariant : (loads : Bool) (input x : ℕ) → Between 1 8 input
@@ -203,6 +217,7 @@ module _ {branches : ℕ} (s : Supervisor) (a : Account) (v : Invariant branches
   factor-keeps-invariant true input x range =
       record {
         settings = load-keeps-settings (s .core .prescalers) (v .settings) input x range;
+        modes = v .modes;
         pulses = v .pulses;
         events = v .events;
         branches = v .branches;
@@ -210,6 +225,7 @@ module _ {branches : ℕ} (s : Supervisor) (a : Account) (v : Invariant branches
   factor-keeps-invariant false input x range =
       record {
         settings = change-keeps-settings (s .core .prescalers) (v .settings) input x range;
+        modes = v .modes;
         pulses = v .pulses;
         events = v .events;
         branches = v .branches;
@@ -232,6 +248,7 @@ module _ {branches : ℕ} (s : Supervisor) (a : Account) (v : Invariant branches
           factors = f .factors;
           count = f .count;
         };
+        modes = v .modes;
         pulses = v .pulses;
         events = v .events;
         branches = v .branches;
@@ -249,12 +266,13 @@ module _ {branches : ℕ} (s : Supervisor) (a : Account) (v : Invariant branches
   register-keeps-invariant : (r : Register) → InRange r → (run : Run) (x : ℕ)
       → after (writtenOf r (hasByte3 run) (mergedOf r run x s)) (afterWrite r run x a)
   unfolding writtenOf baseOf csrWrittenOf csr.writtenOf
-  register-keeps-invariant Csr h run x = request-keeps-invariant (requestedBy run x) _
+  register-keeps-invariant Csr h run x = request-keeps-invariant (requestedBy run x) _ _ (modes-after Csr run x)
   register-keeps-invariant (register.Setting r) h run x = setting-keeps-invariant r h run x
   register-keeps-invariant (Scaler n) h run x =
       by-cond (λ (next : Supervisor). Invariant branches (next .core) (next .readout .branches) a) (hasByte3 run) (λ e. v) (λ e. v)
   register-keeps-invariant Assign h run x = v
   register-keeps-invariant State h run x = v
+  register-keeps-invariant Test h run x = with-modes v (modes-after Test run x)
   register-keeps-invariant Absent h run x = v
 
   -- [Account.5]–[Account.9]
@@ -272,4 +290,5 @@ module _ {branches : ℕ} (s : Supervisor) (a : Account) (v : Invariant branches
   read-keeps-invariant (Scaler n) false = v
   read-keeps-invariant Assign latches = v
   read-keeps-invariant State latches = v
+  read-keeps-invariant Test latches = v
   read-keeps-invariant Absent latches = v

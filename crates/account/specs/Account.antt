@@ -1,15 +1,15 @@
 -- The account of demand 3: what a bystander keeps, from the log of asks and replies alone.
---     document 01    "The account of demand 3"; document 02, N4
---     startOf        the account at the start, at a control value and factors that were written
+--     document 01    "The account of demand 3"; document 02, N4 and N5
+--     startOf        the account at the start, at modes, a control value and factors that were written
 --     afterTick      after a tick that was carried out
 --     afterWrite     after a register write that was carried out
 --     accountOf      after a whole log; by its type it sees neither record nor memory
 -- It shares with the machine only words: which register a number names, which bytes a run holds, what a CSR write asks, which
--- pulses count, what a mask's bit is, which outcome an answer reports and the word in it.
--- Own rules of 01 used here: none. Decisions: R7. Left out: nothing.
+-- inputs are enabled and which pulses count, what a mask's bit is, which outcome an answer reports and the word in it.
+-- Own rules of 01 used here: none. Decisions: R7, T9. Left out: how the modes follow the log, in declines.
 -- Assumes nothing.
 use Prim.Native.Nat.{ℕ, _+_, _-_}
-use mathlib.Core.Bool.{Bool, true, false, not, _&&_, _||_}
+use mathlib.Core.Bool.{Bool, true, not, _&&_, _||_}
 use mathlib.Core.List.{List, [], _++_}
 use lib.Dec.{eqb}
 use lib.ListN.{getD}
@@ -17,14 +17,16 @@ use Rattle.bits.specs.Notation.{if_then_else_, _▷_}
 use Rattle.bits.specs.Bits.{bitAt, oneIfOf}
 use Rattle.run.specs.Run.{hasByte3, overlaidOf}
 use Rattle.run.specs.declared.Run.{Run}
-use Rattle.registers.specs.Control.{counts}
+use Rattle.registers.specs.Control.{isEnabled, counts}
+use Rattle.registers.specs.declared.control.Control.{Control}
 use Rattle.registers.specs.declared.csr.Request.{Request}
 use Rattle.registers.specs.declared.csr.Request.the-variants.{Nothing, Reset, Initialize}
 use Rattle.registers.specs.declared.register.Register.{Register}
-use Rattle.registers.specs.declared.register.Register.the-variants.{Csr, Scaler, Assign, State, Absent}
+use Rattle.registers.specs.declared.register.Register.the-variants.{Csr, Scaler, Assign, State, Test, Absent}
 use Rattle.registers.specs.declared.register.Register.the-variants as register
 use Rattle.registers.specs.declared.register.Setting.{Setting}
-use Rattle.registers.specs.declared.register.Setting.the-variants.{Control, Factor, RocEnable, Interval, Timer}
+use Rattle.registers.specs.declared.register.Setting.the-variants.{Factor, RocEnable, Interval, Timer}
+use Rattle.registers.specs.declared.register.Setting.the-variants as setting
 use Rattle.branch.specs.Slots.{wordsIn}
 use Rattle.branches.specs.Readout.{noSide}
 use Rattle.sequencer.specs.States.{outcomeWords, isCleared, isEvent, isTag}
@@ -36,25 +38,19 @@ use Rattle.supervisor.specs.declared.Answer.{Answer}
 use Rattle.access.specs.Access.{requestedBy}
 use Rattle.declines.specs.Runs.{Entry}
 use Rattle.declines.specs.Follow.{Rules, afterLog}
-use Rattle.account.specs.AccountFields.{Settings, Passes, Sums, Events, Account}
-use Rattle.account.specs.AccountFields.{withSettings, withPasses, put}
+use Rattle.declines.specs.Modes as modes
+use Rattle.declines.specs.Modes.{Modes, noModes, runs}
+use Rattle.account.specs.AccountFields.{Settings, Passes, Sums, Events, Account, noPasses, noSums, noEvents}
+use Rattle.account.specs.AccountFields.{withSettings, withModes, withPasses, put}
 
 -- ---- the start
 
-abbrev pub noPasses : Passes
-noPasses = record { n = λ i. 0; p = λ i. 0 }
-
-abbrev pub noSums : Sums
-noSums = record { counted = λ i. 0; stopped = λ i. 0; scaled = λ i. 0; lost = λ i. 0; rejected = λ i. 0; accepted = λ i. 0 }
-
-abbrev pub noEvents : Events
-noEvents = record { accepted = 0; cleared = 0; loaded = 0; tags = 0; undecided = false }
-
 -- [Account.4] [Account.9] all counts 0, all lists empty, nothing undecided; [Bytes.10a] every pass count is owed
-abbrev pub startOf : (control : ℕ) → (factor : ℕ → ℕ) → Account
-startOf control factor =
+abbrev pub startOf : Modes → (control : ℕ) → (factor : ℕ → ℕ) → Account
+startOf modes control factor =
     record {
       settings = record { control = control; factor = factor; owed = λ i. true };
+      modes = modes;
       passes = noPasses;
       sums = noSums;
       events = noEvents;
@@ -62,15 +58,24 @@ startOf control factor =
       finished = λ k. [];
     }
 
--- [Account.4] control 0, every factor 0
+-- [Account.4] control 0, every factor 0; [Test.9] both modes off, nothing waits
 abbrev pub start : Account
-start = startOf 0 (λ i. 0)
+start = startOf noModes 0 (λ i. 0)
 
 -- ---- a tick carried out
 
--- [Account.10] the pulse rule, with the control that the account keeps
+-- the control that the account keeps
+abbrev controlIn : Account → Control
+controlIn a = record { word = a .settings .control }
+
+-- [Test.3] [Test.9] a written pulse counts at every enabled input, in a tick that runs
+abbrev pub testCounts : Account → (i : ℕ) → Bool
+testCounts a i = runs (a .modes) && (bitAt (a .modes .waiting) 0 && isEnabled (controlIn a) i)
+
+-- [Account.10] the pulse rule; [Test.7a] [Test.9] in test mode no outside pulse counts
 abbrev pub countsIn : Account → Inputs → (i : ℕ) → Bool
-countsIn a x i = counts (record { word = a .settings .control }) (hasStrobe (x .lines)) (x .triggers) i
+countsIn a x i =
+    if a .modes .test then testCounts a i else counts (controlIn a) (hasStrobe (x .lines)) (x .triggers) i
 
 -- one more where the test holds
 abbrev pub add : (ℕ → ℕ) → (ℕ → Bool) → ℕ → ℕ
@@ -114,11 +119,13 @@ passesAfter counted y q =
       p = add (q .p) (λ i. counted i && (not (bitAt (y .masks .stopped) i) && not (bitAt (y .masks .scaled) i)));
     }
 
--- [Account.15] a loaded word joins the words, each finished word its branch's
+-- [Account.15] a loaded word joins the words, each finished word its branch's; [Test.9] in a tick that runs what
+-- waits has acted
 unfoldable pub afterTick : Inputs → Answer → Account → Account
 afterTick x y a =
     record {
       settings = a .settings;
+      modes = modes.afterTick (a .modes);
       passes = passesAfter (countsIn a x) y (a .passes);
       sums = sumsAfter (countsIn a x) y (a .sums);
       events = eventsAfter y (a .events);
@@ -128,11 +135,11 @@ afterTick x y a =
 
 -- ---- a register write carried out
 
--- [Account.8] [Account.9]
-abbrev pub afterRequest : Request → Account → Account
-afterRequest Initialize a = start
-afterRequest Reset a = startOf (a .settings .control) (a .settings .factor)
-afterRequest Nothing a = a
+-- [Account.8] [Account.9]; [Test.8b] with the modes as the write leaves them
+abbrev pub afterRequest : Request → Modes → Account → Account
+afterRequest Initialize m a = start
+afterRequest Reset m a = startOf m (a .settings .control) (a .settings .factor)
+afterRequest Nothing m a = a ▷ withModes m
 
 -- the settings with another factor of an input, counted from 0, and whether its pass count is owed
 abbrev pub factorSet : (i v : ℕ) (owed : Bool) → Settings → Settings
@@ -159,7 +166,7 @@ afterFactor loads i v a = if loads then afterLoad i v a else afterChange i v a
 
 -- [Account.5] [Account.6] every other setting leaves it alone; [Bytes.10b] the account keeps merged values
 abbrev pub afterSetting : Setting → Run → (v : ℕ) → Account → Account
-afterSetting Control run v a =
+afterSetting setting.Control run v a =
     let s = a .settings in
     a ▷ withSettings (record { control = overlaidOf run (s .control) v; factor = s .factor; owed = s .owed })
 afterSetting (Factor input) run v a =
@@ -168,19 +175,24 @@ afterSetting RocEnable run v a = a
 afterSetting Interval run v a = a
 afterSetting (Timer n) run v a = a
 
+-- [Test.9] the modes, after the write
+abbrev pub modesAfter : Register → Run → (v : ℕ) → Account → Modes
+modesAfter r run v a = modes.afterWrite r run v (a .modes)
+
 -- [Account.5] and every other register; [Bytes.3b] what a CSR write lacks counts as 0
 abbrev pub afterWrite : Register → Run → (v : ℕ) → Account → Account
-afterWrite Csr run v a = afterRequest (requestedBy run v) a
+afterWrite Csr run v a = afterRequest (requestedBy run v) (modesAfter Csr run v a) a
 afterWrite (register.Setting r) run v a = afterSetting r run v a
 afterWrite (Scaler n) run v a = a
 afterWrite Assign run v a = a
 afterWrite State run v a = a
+afterWrite Test run v a = a ▷ withModes (modesAfter Test run v a)
 afterWrite Absent run v a = a
 
 -- ---- a whole log
 
 abbrev pub rules : Rules Account
-rules = record { wrote = afterWrite; ran = afterTick }
+rules = record { wrote = afterWrite; ticked = afterTick }
 
 -- [Account.3] [Account.5]
 abbrev pub accountOf : List Entry → Account → Account

@@ -6,7 +6,7 @@
 -- and each tag; and it holds at most eight. Every counted pulse of every input is in exactly one mask. Accepted events are
 -- cleared, loaded or the one undecided, and there is such a one if and only if main stands at Delay, Wait 2, Wait 3 or
 -- Front. Of n pulses n div (F + 1) pass, where no write without BYTE(3) has changed the factor since the counter was loaded.
---     document 01    "The account of demand 3"; document 02, N4
+--     document 01    "The account of demand 3"; document 02, N4 and N5
 --     Balanced       the statement, of a record and an account
 --     Demand3        it holds after every list of calls
 -- Own rules of 01 used here: none. Decisions: E1, R7. Left out: where the pass count is owed at least, in Owed.

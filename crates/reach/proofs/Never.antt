@@ -9,12 +9,12 @@ use mathlib.Core.Bool.{false}
 use mathlib.Core.List.{List}
 use Rattle.run.specs.Run.{hasByte3}
 use Rattle.registers.specs.Registers.{numberedOf}
-use Rattle.supervisor.specs.Supervisor.{freshOf, isSpoiledOf}
+use Rattle.supervisor.specs.Supervisor.{freshOf, isSpoiledOf, inForceOf}
 use Rattle.supervisor.specs.declared.Supervisor.{Supervisor}
 use Rattle.declines.specs.Answers.{Reply}
 use Rattle.declines.specs.Calls.{markedOf}
 use Rattle.declines.specs.Runs.{Ask, Call, callOf, recordAfter, Entry}
-use Rattle.declines.proofs.CallEnds.{End, refused, refusedActive, wrote, read, gave, stored, ran, call-ends}
+use Rattle.declines.proofs.CallEnds.{End, refused, refusedActive, wrote, read, gave, stored, ran, held, call-ends}
 use Rattle.declines.proofs.CallEnds.{Chain, stop, then, run-is-chain}
 use Rattle.declines.specs.Refusals.{statusBit}
 use Rattle.reach.specs.NeverSpoiled.{OfType, KeepsUnspoiled, NeverSpoiled}
@@ -54,11 +54,12 @@ end-keeps-fine {s = s} fine (read number run v) =
     }
 end-keeps-fine fine (gave place v) = fine
 end-keeps-fine fine (stored place word) = fine
-end-keeps-fine {memory = memory} {s = s} fine (ran x clean) =
+end-keeps-fine {memory = memory} {s = s} fine (ran x clean runs) =
     record {
-      ofType = tick-keeps-type memory x s (fine .ofType) (fine .unspoiled);
-      unspoiled = tick-keeps-unspoiled memory x s (fine .ofType) (fine .unspoiled);
+      ofType = tick-keeps-type memory (inForceOf x s) s (fine .ofType) (fine .unspoiled);
+      unspoiled = tick-keeps-unspoiled memory (inForceOf x s) s (fine .ofType) (fine .unspoiled);
     }
+end-keeps-fine fine (held x stands) = fine
 
 chain-keeps-fine : {log : List Entry} {s last : Supervisor} → UnspoiledOfType s → Chain log s last → UnspoiledOfType last
 chain-keeps-fine fine stop = fine

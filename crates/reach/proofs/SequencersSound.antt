@@ -35,7 +35,7 @@ use Rattle.trigger.specs.declared.lines.Inputs.{Inputs}
 use Rattle.trigger.specs.declared.latch.Latch.{Latch}
 use Rattle.trigger.proofs.LatchLaws.{accepted-is-ready}
 use Rattle.trigger.proofs.BlindTimeLaws.{after-keeps-within}
-use Rattle.core.specs.Core.{pulsedOf, isReadyOf, latchedOf}
+use Rattle.core.specs.Core.{pulsedOf, isReadyOf, latchIn}
 use Rattle.core.specs.Spoiled.{sequencerClauses}
 use Rattle.core.specs.Core.{cycleStepOf, mainStepOf, userStepOf, settledOf, stepOf}
 use Rattle.core.proofs.CoreParts.{idle-cycle-is-quiet}
@@ -88,13 +88,13 @@ sync-keeps-within enabled m u s h within =
     (λ e. within))
 
 main-keeps-well-formed : (room empty : Bool) (x : Inputs) (memory : List ℕ) (c : Core) → WellFormedMain (c .main)
-    → WellFormedMain (mainStepOf room empty (x .lines) (latchedOf x memory c) (wordAtOf memory (pulsedOf x c .passed)) c .next)
+    → WellFormedMain (mainStepOf room empty (x .lines) (latchIn x memory c) (wordAtOf memory (pulsedOf x c .passed)) c .next)
 unfolding mainStepOf
 main-keeps-well-formed room empty x memory c h =
     let passed = pulsedOf x c .passed in
     let ok : Bool = isOkWord (wordAtOf memory passed) in
     let ready : Bool = isReadyOf (x .lines) c in
-    by-cond (λ (s : MainStep). WellFormedMain (s .next)) (scalers.isSome (latchedOf x memory c .accepted))
+    by-cond (λ (s : MainStep). WellFormedMain (s .next)) (scalers.isSome (latchIn x memory c .accepted))
     (λ e. sequencer.accepted-keeps-well-formed _ (c .main) (and-right ready ok (accepted-is-ready ready ok passed e)))
     (λ e. sequencer.step-keeps-well-formed _ (main.agedOf (c .main)) (sequencer.aged-keeps-well-formed (c .main) h))
 
@@ -126,7 +126,7 @@ module _ (room empty : Bool) (x : Inputs) (memory : List ℕ) (c : Core) (h : So
   word = wordAtOf memory passed
 
   abbrev latch : Latch
-  latch = latchedOf x memory c
+  latch = latchIn x memory c
 
   abbrev wanted : Bool
   wanted = csr.wantsUserSync (c .csr)

@@ -1,4 +1,4 @@
--- A tick keeps a record that is not spoiled so.
+-- A tick that runs keeps a record that is not spoiled so, whatever inputs are in force.
 --     load-allows-eight      after a load a queue may hold eight words
 --     leaves-by-test         where eight words are no longer allowed, the branches passed the test
 --     tick-keeps-type        arrays of eight, an interval of 16 bits
@@ -46,7 +46,7 @@ use Rattle.core.proofs.CoreParts.{isLoad, main-has-no-tag}
 use Rattle.core.proofs.CoreLaws as coreLaws
 use Rattle.core.specs.declared.Core.{Core}
 use Rattle.core.specs.declared.CoreStep.{CoreStep}
-use Rattle.supervisor.specs.Supervisor.{coreStepOf, readoutStepOf, joinedOf, tickedOf}
+use Rattle.supervisor.specs.Supervisor.{coreStepOf, readoutStepOf, joinedOf, ranOf}
 use Rattle.supervisor.specs.declared.Supervisor.{Supervisor}
 use Rattle.reach.specs.NeverSpoiled.{OfType}
 use Rattle.reach.proofs.Sound.{Unspoiled, sound-test}
@@ -89,7 +89,7 @@ module _ (room empty : Bool) (x : Inputs) (memory : List ℕ) (c : Core) where
   word = wordAtOf memory passed
 
   abbrev latch : Latch
-  latch = core.latchedOf x memory c
+  latch = core.latchIn x memory c
 
   abbrev mainStep : MainStep
   mainStep = core.mainStepOf room empty (x .lines) latch word c
@@ -199,8 +199,8 @@ test-gives-room lock lock4 bs k h = go (readout.hasRoomOf lock lock4 bs) refl
 module _ (memory : List ℕ) (x : Inputs) (s : Supervisor) (ofType : OfType s)
     (u : Unspoiled (s .core) (s .readout .branches))
   where
-    pub tick-keeps-type : OfType (tickedOf memory x s .next)
-    unfolding tickedOf joinedOf coreStepOf
+    pub tick-keeps-type : OfType (ranOf memory x s .next)
+    unfolding ranOf joinedOf coreStepOf
     tick-keeps-type =
         let lock = csr.locksRoc (s .core .csr) in
         let lock4 = csr.locksBranch4 (s .core .csr) in
@@ -211,8 +211,8 @@ module _ (memory : List ℕ) (x : Inputs) (s : Supervisor) (ofType : OfType s)
           interval = rw (interval-stays room empty x memory (s .core)) (ofType .interval);
         }
 
-    pub tick-keeps-unspoiled : Unspoiled (tickedOf memory x s .next .core) (tickedOf memory x s .next .readout .branches)
-    unfolding tickedOf joinedOf coreStepOf readoutStepOf readout.stepOf
+    pub tick-keeps-unspoiled : Unspoiled (ranOf memory x s .next .core) (ranOf memory x s .next .readout .branches)
+    unfolding ranOf joinedOf coreStepOf readoutStepOf readout.stepOf
     tick-keeps-unspoiled =
         let lock = csr.locksRoc (s .core .csr) in
         let lock4 = csr.locksBranch4 (s .core .csr) in

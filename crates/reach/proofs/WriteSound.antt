@@ -181,6 +181,7 @@ module _ (s : Supervisor) (ofType : OfType s) (u : Unspoiled (s .core) (s .reado
       (zeroed-keeps-assign n (s .core .scalers) (u .registers .assign))
   write-keeps-unspoiled register.Assign loads v valid = with-scalers (s .core .scalers ▷ withAssign v) valid
   write-keeps-unspoiled register.State loads v valid = u
+  write-keeps-unspoiled register.Test loads v valid = u
   write-keeps-unspoiled register.Absent loads v valid = u
 
   -- [Bytes.5a] a latch is no part of the rule
@@ -193,6 +194,7 @@ module _ (s : Supervisor) (ofType : OfType s) (u : Unspoiled (s .core) (s .reado
       (latched-keeps-assign n (s .core .scalers) (u .registers .assign))
   read-keeps-unspoiled register.Assign latches = u
   read-keeps-unspoiled register.State latches = u
+  read-keeps-unspoiled register.Test latches = u
   read-keeps-unspoiled register.Absent latches = u
 
   -- ---- and the types
@@ -229,6 +231,7 @@ module _ (s : Supervisor) (ofType : OfType s) (u : Unspoiled (s .core) (s .reado
   write-keeps-type (register.Scaler n) loads v = scalers-keep-type loads (scalers.zeroedOf n (s .core .scalers))
   write-keeps-type register.Assign loads v = scalers-keep-type true (s .core .scalers ▷ withAssign v)
   write-keeps-type register.State loads v = ofType
+  write-keeps-type register.Test loads v = record { eight = ofType .eight; interval = ofType .interval }
   write-keeps-type register.Absent loads v = ofType
 
   pub read-keeps-type : (r : Register) (latches : Bool) → OfType (afterReadOf r latches s)
@@ -238,4 +241,5 @@ module _ (s : Supervisor) (ofType : OfType s) (u : Unspoiled (s .core) (s .reado
   read-keeps-type (register.Scaler n) latches = scalers-keep-type latches (scalers.latchedOf n (s .core .scalers))
   read-keeps-type register.Assign latches = ofType
   read-keeps-type register.State latches = ofType
+  read-keeps-type register.Test latches = ofType
   read-keeps-type register.Absent latches = ofType
