@@ -4,6 +4,7 @@ pub mod Examples
 pub mod BlindExamples
 pub mod StateExamples
 pub mod BytesExamples
+pub mod TestExamples
 pub mod Script
 pub mod Misreadings
 pub mod SessionsLaws

@@ -53,11 +53,11 @@ noRunIsRead = given [] ask readBy noRuns rocEnable look decline see 7 ∷ 7 ∷ 
 abbrev pub noRunIsWritten : Example
 noRunIsWritten = given [] ask writeBy noRuns rocEnable 0 look decline see 7 ∷ 7 ∷ 7 ∷ 7 ∷ 7 ∷ 7 ∷ 7 ∷ 7 ∷ []
 
--- [Bytes.11] after 3: register 21, and a write to STATE
+-- [Bytes.11] after 3: register 22, and a write to STATE
 abbrev pub numberFirst : Example
 numberFirst =
     given []
-    ask writeBytes 0 0 (state + 1) 0 ∷ readBytes 0 0 (state + 1) ∷ writeBytes 0 0 state 0 ∷ readBytes 0 0 state ∷ []
+    ask writeBytes 0 0 (state + 2) 0 ∷ readBytes 0 0 (state + 2) ∷ writeBytes 0 0 state 0 ∷ readBytes 0 0 state ∷ []
     look decline see 3 ∷ 3 ∷ 3 ∷ 7 ∷ []
 
 -- before 4, which sets status bit 19, and before 5

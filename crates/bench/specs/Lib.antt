@@ -5,3 +5,6 @@ pub mod Bench
 pub mod Blind
 pub mod State
 pub mod Bytes
+pub mod TestAsks
+pub mod TestMode
+pub mod Hold

@@ -3,7 +3,7 @@
 --     answered      the machine that is asked: askOf, line by line
 --     repliesTo     its replies to a session
 --     repliesLogged   the replies that a bystander logs of the same asks in a run; `claims` says that they are the same
---     lost, rejected, passed, cleared, loaded, finished1, shown1   what is looked at in a tick
+--     stopped, lost, rejected, accepted, passed, cleared, loaded, finished1, shown1, raised   what is looked at in a tick
 --     readOut, highBits, decline   and in the replies to other asks
 -- Own rules of 01 used here: none. Decisions: none. Left out: nothing.
 -- Assumes nothing.
@@ -69,6 +69,12 @@ inTick f (ticked a) = f a ∷ []
 abbrev pub lost : Reply → List ℕ
 lost = inTick (λ a. a .masks .lost)
 
+abbrev pub stopped : Reply → List ℕ
+stopped = inTick (λ a. a .masks .stopped)
+
+abbrev pub accepted : Reply → List ℕ
+accepted = inTick (λ a. a .masks .accepted)
+
 abbrev pub rejected : Reply → List ℕ
 rejected = inTick (λ a. a .masks .rejected)
 
@@ -88,6 +94,10 @@ finished1 = inTick (λ a. wordOf (getD (a .sides) 0 noSide .finished))
 
 abbrev pub shown1 : Reply → List ℕ
 shown1 = inTick (λ a. wordOf (getD (a .sides) 0 noSide .shown))
+
+-- lines out
+abbrev pub raised : Reply → List ℕ
+raised = inTick (λ a. a .lines)
 
 -- ---- and in the replies to other asks
 

@@ -28,7 +28,7 @@ noneEnabled = 21 ∷ 24 ∷ 27 ∷ 30 ∷ []
 abbrev pub freshReads : Example
 freshReads = given [] ask read state ∷ [] look readOut see 0x49242000 ∷ []
 
--- [State.8b] a write gets 3, active or not, and sets no status bit; the number after it names no register
+-- [State.8b] a write gets 3, active or not, and sets no status bit
 abbrev pub isNotWritten : Example
 isNotWritten = given [] ask write state 0 ∷ [] look decline see 3 ∷ []
 
@@ -37,9 +37,6 @@ isNotWrittenWhileActive = given running ask write state 0 ∷ [] look decline se
 
 abbrev pub writeSetsNoStatus : Example
 writeSetsNoStatus = given running ask write state 0 ∷ read csr ∷ [] look readOut see go ∷ []
-
-abbrev pub isTheLast : Example
-isTheLast = given [] ask read (state + 1) ∷ [] look decline see 3 ∷ []
 
 -- ---- READY and TS BUSY
 
@@ -176,7 +173,7 @@ declinedIsNotKept =
 abbrev pub stateExamples : List Example
 stateExamples =
     freshReads
-    ∷ isNotWritten ∷ isNotWrittenWhileActive ∷ writeSetsNoStatus ∷ isTheLast
+    ∷ isNotWritten ∷ isNotWrittenWhileActive ∷ writeSetsNoStatus
     ∷ readyWithGo ∷ busyByFrontBusy ∷ busyByInhibit ∷ readyByOverride
     ∷ busyWhileBlind ∷ latchedFalls ∷ readyAfterBlind
     ∷ showsWait2 ∷ showsWait3 ∷ showsALineNotAsked ∷ showsFront ∷ showsClear

@@ -4,3 +4,4 @@ pub mod Proved
 pub mod PartsProved
 pub mod RequestsProved
 pub mod BytesProved
+pub mod TestModeProved

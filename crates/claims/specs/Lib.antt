@@ -3,3 +3,4 @@ pub mod Claims
 pub mod Parts
 pub mod Requests
 pub mod Bytes
+pub mod TestMode

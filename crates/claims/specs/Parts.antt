@@ -1,5 +1,6 @@
 -- What is claimed of the parts, each by itself and for every value of its types: the rules of document 01 that a part keeps
--- whatever stands around it; those of document 02 are in Requests and Bytes. proofs/PartsProved.antt proves each by citing its law.
+-- whatever stands around it; those of document 02 are in Requests, Bytes and TestMode. proofs/PartsProved.antt proves each by
+-- citing its law.
 -- Assumes nothing.
 use Prim.Native.Nat.{ℕ, _+_, _/_, _^_, _<_, _≤_}
 use mathlib.Core.Path.{_≡_}
@@ -60,9 +61,10 @@ abbrev pub PastLastIsAbsent : Type 0
 PastLastIsAbsent = (n : ℕ) → lastRegister < n → numberedOf n ≡ Absent
 
 -- [Declines.2b] [Declines.2c] [Declines.3a] Registers 0–19 are read and written, and 1–16 are protected while active;
--- [State.8a] [State.8b] 20 is read only.
+-- [State.8a] [State.8b] 20 is read only, [Test.5b] 21 is written only; [Test.2] of the protected ones test mode opens 1.
 abbrev pub FactsByNumber : Type 0
-FactsByNumber = (n : ℕ) → factsOf (numberedOf n) ≡ facts (leb n 20) (leb n 19) (leb 1 n && leb n 16)
+FactsByNumber =
+    (n : ℕ) → factsOf (numberedOf n) ≡ facts (leb n 20) (leb n 19 || eqb n 21) (leb 1 n && leb n 16) (eqb n 1)
 
 -- [Memory.1] The memory has a place for each pattern of the twelve inputs.
 abbrev pub PlaceForEachPattern : Type 0

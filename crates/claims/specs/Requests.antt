@@ -1,5 +1,5 @@
--- What is claimed of document 02's requests but N4, which has Bytes, for every value of the types; what they change of document 01's claims stands
--- with those. proofs/RequestsProved.antt proves each by citing its law.
+-- What is claimed of document 02's requests N1 and N2, for every value of the types; N4 has Bytes, N5 TestMode; what they change
+-- of document 01's claims stands with those. proofs/RequestsProved.antt proves each by citing its law.
 -- Assumes nothing.
 use Prim.Native.Nat.{ℕ, suc, _<_}
 use mathlib.Core.Path.{_≡_}
@@ -13,7 +13,7 @@ use Rattle.trigger.specs.BlindTime.{LosesAll}
 use Rattle.trigger.specs.declared.lines.Inputs.{Inputs}
 use Rattle.core.specs.Core as core
 use Rattle.core.specs.declared.Core.{Core}
-use Rattle.supervisor.specs.Supervisor.{freshOf, resetOf, isSpoiledOf, tickedOf}
+use Rattle.supervisor.specs.Supervisor.{freshOf, resetOf, isSpoiledOf, inForceOf, isHeldOf, tickedOf}
 use Rattle.supervisor.specs.declared.Supervisor.{Supervisor}
 use Rattle.state.specs.State.{stateBitAt, stateOf, latestTickIn, ShowsTick}
 use Rattle.declines.specs.Answers.{declined, value}
@@ -76,15 +76,16 @@ FreshStateReads = stateOf (freshOf moduleBranches) ≡ 0x49242000
 abbrev pub ResetKeepsLatest : Type 0
 ResetKeepsLatest = (s : Supervisor) → latestTickIn (resetOf s) ≡ latestTickIn s
 
--- [State.3] [State.6] [State.7] After a tick that runs, bits 2, 3, 6, 7, 10, 11 and 12 are that tick's.
+-- [State.3] [State.6] [State.7] [Test.7b] After a tick that runs, bits 2, 3, 6, 7, 10, 11 and 12 are that tick's, with the lines
+-- in force in it.
 abbrev pub StateShowsTheTick : Type 0
 StateShowsTheTick =
-    (memory : List ℕ) (x : Inputs) (s : Supervisor)
-    → ShowsTick x (tickedOf memory x s .answer .masks) (tickedOf memory x s .next)
+    (memory : List ℕ) (x : Inputs) (s : Supervisor) → isHeldOf s ≡ false
+    → ShowsTick (inForceOf x s) (tickedOf memory x s .answer .masks) (tickedOf memory x s .next)
 
--- [State.3] After every list of calls from a fresh supervisor, refused ones among them, the record keeps what a bystander
--- finds in the log: the lines, the acknowledges and the latched pattern of the latest tick that ran since the start or
--- INITIALIZE.
+-- [State.3] [Test.7b] After every list of calls from a fresh supervisor, refused ones among them, the record keeps what a
+-- bystander finds in the log: the lines and the acknowledges in force, and the latched pattern, of the latest tick that ran
+-- since the start or INITIALIZE.
 abbrev pub EveryRunKeepsTheLatestTick : Type 0
 EveryRunKeepsTheLatestTick = KeepsTheLatestTick moduleBranches
 
