@@ -21,6 +21,7 @@ use sequencer::main_sequencer::MainSequencer;
 use sequencer::states::State;
 use sync::counter::SyncCounter;
 use sync::user::UserSync;
+use testing::TestWord;
 use timers::Count20;
 use timers::Count40;
 use timers::Timers;
@@ -34,6 +35,9 @@ pub fn core_in(numbers: &[u64]) -> Core {
     };
     let control = Control {
         word: word_at(numbers, 1),
+    };
+    let test = TestWord {
+        word: word_at(numbers, 56),
     };
     let user = UserSync {
         waiting: bool_at(numbers, 37),
@@ -52,6 +56,7 @@ pub fn core_in(numbers: &[u64]) -> Core {
         prescalers: prescalers_in(numbers),
         csr,
         control,
+        test,
         scalers: scalers_in(numbers),
         main: main_in(numbers),
         timers: timers_in(numbers),
@@ -84,6 +89,7 @@ fn put_single(out: &mut [u64], core: Core) {
     put(out, 50, wide8(core.blind.count));
     put(out, 51, wide(core.latest.lines.word));
     put(out, 52, wide_bool(core.latest.latched));
+    put(out, 56, wide(core.test.word));
 }
 
 // ---- the prescalers: 2–9, 20–27

@@ -19,6 +19,7 @@ use supervisor::Answer;
 use supervisor::Supervisor;
 use sync::counter::SyncCounter;
 use sync::user::UserSync;
+use testing::TestWord;
 use timers::Count20;
 use timers::Count40;
 use timers::Timers;
@@ -28,7 +29,7 @@ use trigger::lines::Inputs;
 // ---- the record to start with: its registers from the table, every counter loaded, all else as at power-up. It is built
 // here and not by `numbers`, so that the compiler keeps the loop's record apart; that saves a seventh of a tick.
 
-// How many inputs the table has; the registers 0–19 stand after them.
+// How many inputs the table has; the registers 0–21 stand after them, STATE as 0.
 const INPUTS: usize = 16384;
 
 fn register_at(table: &[u64], number: usize) -> u32 {
@@ -74,6 +75,9 @@ fn core_in(table: &[u64]) -> Core {
     let control = Control {
         word: register_at(table, 1),
     };
+    let test = TestWord {
+        word: register_at(table, 21),
+    };
     let sync = SyncCounter {
         interval: (register_at(table, 11) % 65536) as u16,
         count: 0,
@@ -88,6 +92,7 @@ fn core_in(table: &[u64]) -> Core {
         prescalers: factors_in(table),
         csr,
         control,
+        test,
         scalers,
         main: MainSequencer::idle(),
         timers: timers_in(table),
@@ -173,7 +178,7 @@ fn folded(sum: u64, answer: Answer, verdict: Verdict) -> u64 {
     )
 }
 
-// Scalers, CSR, sync count, what is kept of the latest tick and the latches, of the last record.
+// Scalers, CSR, sync count, what is kept of the latest tick, the latches and what waits of TEST, of the last record.
 fn closed(sum: u64, s: Supervisor) -> u64 {
     let core = s.core;
     let scalers = wide(core.scalers.scaler0) | wide(core.scalers.scaler1) << 32;
@@ -183,7 +188,11 @@ fn closed(sum: u64, s: Supervisor) -> u64 {
         | wide(bits::one_if(latest.latched)) << 8
         | wide(s.readout.acks) << 32;
     let latches = wide(core.scalers.latch0) | wide(core.scalers.latch1) << 32;
-    fold(fold(fold(fold(sum, scalers), rest), kept), latches)
+    let test = wide(core.test.word);
+    fold(
+        fold(fold(fold(fold(sum, scalers), rest), kept), latches),
+        test,
+    )
 }
 
 // ---- the loop
