@@ -1,4 +1,5 @@
-//! Names the archives of the proved library to the linker, and writes the faulty copy of the model for `compare`.
+//! Names the archives of the proved library to the linker, and writes the faulty copies of the model and of its account
+//! for `compare`.
 
 use std::path::{Path, PathBuf};
 
@@ -7,8 +8,10 @@ include!("src/bin/compare/fault_list.rs");
 fn main() {
     println!("cargo:rerun-if-changed=build.rs");
     println!("cargo:rerun-if-changed=src/machine");
+    println!("cargo:rerun-if-changed=src/account.rs");
     println!("cargo:rerun-if-changed=src/bin/compare/fault_list.rs");
-    for part in ["call", "tick", "request", "state", "kept", "byte", "latch"] {
+    let machine = ["call", "tick", "request", "state", "kept", "byte", "latch", "test", "force", "held", "mode"];
+    for part in machine.into_iter().chain(["account"]) {
         println!("cargo:rerun-if-changed=src/bin/compare/{part}_faults.rs");
     }
     if std::env::var_os("CARGO_FEATURE_PROVED").is_none() {
@@ -22,9 +25,14 @@ fn main() {
         println!("cargo:rustc-link-arg-bin={bin}={}", archive.display());
     }
 
+    let out = PathBuf::from(std::env::var_os("OUT_DIR").expect("cargo sets it"));
+    let all: Vec<(usize, &Fault)> = faults().collect();
+    let (of_machine, of_account) = all.split_at(all.len() - ACCOUNT_FAULTS.len());
     let source = whole(&here.join("src/machine"), "mod");
-    let copy = PathBuf::from(std::env::var_os("OUT_DIR").expect("cargo sets it")).join("faulty.rs");
-    std::fs::write(copy, faulty(&source)).expect("OUT_DIR");
+    std::fs::write(out.join("faulty.rs"), faulty(&source, of_machine)).expect("OUT_DIR");
+    // The copy of the account keeps to the model's own records and answers.
+    let source = whole(&here.join("src"), "account").replace("use crate::machine::", "use reference::machine::");
+    std::fs::write(out.join("faulty_account.rs"), faulty(&source, of_account)).expect("OUT_DIR");
 }
 
 /// The text of one of the model's files, with the text of each of its child modules in the place of the line that
@@ -43,11 +51,11 @@ fn whole(folder: &Path, name: &str) -> String {
     text
 }
 
-/// The model's source with every fault at its place, behind a test of the switch.
-fn faulty(source: &str) -> String {
+/// The source with each of these faults at its place, behind a test of the switch.
+fn faulty(source: &str, faults: &[(usize, &Fault)]) -> String {
     let mut text = source.to_string();
     let mut done: Vec<&str> = Vec::new();
-    for fault in faults() {
+    for (_, fault) in faults {
         if done.contains(&fault.right) {
             continue;
         }
@@ -56,10 +64,10 @@ fn faulty(source: &str) -> String {
         for place in [source, text.as_str()] {
             assert_eq!(place.matches(fault.right).count(), 1, "the place of a fault: {}", fault.right);
         }
-        let wrong: String = faults()
-            .enumerate()
+        let wrong: String = faults
+            .iter()
             .filter(|(_, other)| other.right == fault.right)
-            .map(|(number, other)| format!("if crate::faults::is_on({}) {{ {} }} else ", number + 1, other.wrong))
+            .map(|(number, other)| format!("if crate::faults::is_on({number}) {{ {} }} else ", other.wrong))
             .collect();
         text = text.replacen(fault.right, &format!("({wrong}{{ {} }})", fault.right), 1);
     }

@@ -1,8 +1,9 @@
 //! The account of demand 3, kept from calls and answers alone. [Account.1]–[Account.18] [Bytes.10a] [Bytes.10b]
+//! [Test.9]
 //!
 //! Only register writes and ticks are told to it; reads and memory writes leave it alone. [Account.5]
 
-use crate::machine::{csr, Answer, MainState, Outcome, Supervisor, BRANCHES, PLACES};
+use crate::machine::{csr, test, Answer, MainState, Outcome, Supervisor, BRANCHES, PLACES};
 
 /// The inputs, with or without a prescaler.
 pub const INPUTS: usize = 12;
@@ -35,9 +36,16 @@ pub struct Account {
     pub control: u32,
     /// Merged values; inputs 9–12 keep factor 0. [Bytes.10b]
     pub factors: [u32; INPUTS],
-    /// Whether p = n div (F + 1) is owed: since the last load no write without BYTE(3) has changed F. Inputs 9–12 always
-    /// owe it. [Bytes.10a]
+    /// Whether p = n div (F + 1) is owed: since the last load no write without BYTE(3) has changed F. Inputs 9–12
+    /// always owe it. [Bytes.10a]
     pub owed: [bool; INPUTS],
+    /// Both modes, as the writes carried out leave them. [Test.9]
+    pub hold: bool,
+    pub test_mode: bool,
+    /// A single step written under hold waits. [Test.8a] [Test.9]
+    pub step: bool,
+    /// A pulse on every enabled input was written since the latest tick that ran. [Test.3] [Test.9]
+    pub pulse: bool,
     pub inputs: [Input; INPUTS],
     pub accepted_events: u64,
     pub cleared_events: u64,
@@ -55,6 +63,10 @@ impl Account {
             control: 0,
             factors: [0; INPUTS],
             owed: [true; INPUTS],
+            hold: false,
+            test_mode: false,
+            step: false,
+            pulse: false,
             inputs: [Input::default(); INPUTS],
             accepted_events: 0,
             cleared_events: 0,
@@ -80,16 +92,52 @@ impl Account {
         let run = bytes_of(first, count);
         let merged = |kept: u32| value & run | kept & !run;
         match number {
-            Supervisor::CSR if merged(0) & csr::INITIALIZE != 0 => *self = Self::new(),
-            Supervisor::CSR if merged(0) & csr::RESET != 0 => {
-                *self = Account { control: self.control, factors: self.factors, ..Self::new() };
-            }
+            Supervisor::CSR => self.write_csr(merged(0)),
+            Supervisor::TEST => self.write_test(merged(0)),
             Supervisor::CONTROL => self.control = merged(self.control),
             Supervisor::FACTOR_1..=Supervisor::FACTOR_8 => {
                 let input = (number - Supervisor::FACTOR_1) as usize;
                 self.write_factor(input, merged(self.factors[input]), run & 0xFF != 0);
             }
             _ => {}
+        }
+    }
+
+    /// INITIALIZE; else both modes follow the write, and RESET keeps them. [Account.8] [Account.9] [Test.8b] [Test.9]
+    fn write_csr(&mut self, value: u32) {
+        if value & csr::INITIALIZE != 0 {
+            *self = Self::new();
+            return;
+        }
+        let (set, clear) = (value, value >> 16);
+        self.hold = (self.hold || set & csr::HOLD != 0) && clear & csr::HOLD == 0;
+        self.test_mode = (self.test_mode || set & csr::TEST_MODE != 0) && clear & csr::TEST_MODE == 0;
+        if value & csr::RESET != 0 {
+            let (hold, test_mode) = (self.hold, self.test_mode);
+            *self = Account { control: self.control, factors: self.factors, hold, test_mode, ..Self::new() };
+        }
+    }
+
+    /// What waits for the next tick that runs. [Test.6] [Test.8a] [Test.9]
+    fn write_test(&mut self, value: u32) {
+        self.step |= self.hold && value & test::SINGLE_STEP != 0;
+        self.pulse |= value & test::LEVEL_1_PASS != 0;
+    }
+
+    /// The pulses that a tick brings, enabled or not, and whether the strobe is high. In test mode nothing from outside
+    /// counts, and a written pulse counts in the tick that runs. [Test.2] [Test.3] [Test.7a] [Test.9]
+    fn brought(&mut self, triggers: u32, lines: u32) -> (u32, bool) {
+        let runs = !self.hold || self.step;
+        let written = runs && self.pulse;
+        if runs {
+            (self.step, self.pulse) = (false, false);
+        }
+        if !self.test_mode {
+            (triggers, lines & 1 != 0)
+        } else if written {
+            (u32::MAX, true)
+        } else {
+            (0, false)
         }
     }
 
@@ -105,11 +153,12 @@ impl Account {
         self.factors[input] = factor;
     }
 
-    /// A tick and its answer. [Account.10]–[Account.15]
+    /// A tick and its answer, held or not. [Account.10]–[Account.15] [Test.9]
     pub fn tick(&mut self, triggers: u32, lines: u32, answer: &Result<Answer, u8>) {
         let Ok(answer) = answer else { return };
         // The pulse rule, written out once more, so that the account does not lean on the machine. [Pulses.1]
-        let strobed = self.control & 1 == 0 || lines & 1 != 0;
+        let (triggers, strobe) = self.brought(triggers, lines);
+        let strobed = self.control & 1 == 0 || strobe;
         for (i, input) in self.inputs.iter_mut().enumerate() {
             let bit = |mask: u16| u64::from((mask >> i) & 1);
             let enabled = (self.control >> (i + 1)) & 1 != 0;
@@ -127,7 +176,15 @@ impl Account {
             self.accepted_events += 1;
             self.undecided = true;
         }
-        match answer.outcome {
+        self.add_outcome(answer.outcome);
+        for (words, word) in self.words_finished.iter_mut().zip(answer.finished) {
+            words.extend(word);
+        }
+    }
+
+    /// [Account.14] [Account.15]
+    fn add_outcome(&mut self, outcome: Outcome) {
+        match outcome {
             Outcome::Nothing => {}
             Outcome::Cleared => {
                 self.cleared_events += 1;
@@ -143,9 +200,6 @@ impl Account {
                 self.undecided = false;
                 self.words_loaded.push(word);
             }
-        }
-        for (words, word) in self.words_finished.iter_mut().zip(answer.finished) {
-            words.extend(word);
         }
     }
 

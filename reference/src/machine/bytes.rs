@@ -41,8 +41,8 @@ impl Run {
 }
 
 impl Supervisor {
-    /// The value that a write by this run stands for: lacking bytes are those stored, in the CSR 0. [Bytes.3a]
-    /// [Bytes.3b]
+    /// The value that a write by this run stands for: lacking bytes are those stored, in the CSR 0. Nor does TEST store
+    /// any. [Bytes.3a] [Bytes.3b] [Open: T9]
     pub(super) fn merged(&self, register: u32, run: Run, value: u32) -> u32 {
         let kept = if register == Self::CSR { 0 } else { self.value_of(register).unwrap_or(0) };
         run.cut(value) | (kept & !run.bits())

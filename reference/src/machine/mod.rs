@@ -11,6 +11,7 @@ mod memory;
 mod names;
 mod registers;
 mod state;
+mod test_mode;
 mod tick;
 
 pub use branch::{Branch, BranchState};
@@ -64,7 +65,8 @@ pub enum MainState {
 /// - the states of main and branches: enums, so only the listed states exist;
 /// - `accept_pattern`: all eight bits are in use [Memory.2];
 /// - `late`, the raised lines and `user_sync_waiting`: plain yes or no, with no clause about them alone;
-/// - `kept_lines`, `latched` and `kept_acknowledges`: no clause speaks of them, odd lines included [State.3].
+/// - `kept_lines`, `latched` and `kept_acknowledges`: no clause speaks of them, odd lines included [State.3];
+/// - `test`: no clause speaks of it, odd bits included [Open: T9].
 #[derive(Clone, Debug, PartialEq, Eq, Hash)]
 pub struct Supervisor {
     pub csr: u32,
@@ -103,12 +105,14 @@ pub struct Supervisor {
     pub user_sync_waiting: bool,
     /// Ticks to come that are not ready after a rejected pattern. [Blind.2] [Blind.3]
     pub blind: u32,
-    /// The lines of the latest tick that ran, for STATE. [State.3]
+    /// The lines in force in the latest tick that ran, for STATE. [State.3] [Test.7b]
     pub kept_lines: u32,
     /// Whether that tick latched a pattern, rejected or accepted. [State.3] [State.7]
     pub latched: bool,
-    /// The acknowledges of that tick, enabled or not. [State.3]
+    /// The acknowledges in force in that tick, enabled or not. [State.3]
     pub kept_acknowledges: u32,
+    /// What waits: the TEST bits written since that tick, with the single step as bit 7. [Test.6] [Test.8a]
+    pub test: u32,
     pub branches: [Branch; BRANCHES],
 }
 
@@ -130,6 +134,8 @@ impl Supervisor {
     pub const ASSIGN: u32 = 19;
     /// Read only. [State.8a] [State.8b]
     pub const STATE: u32 = 20;
+    /// Written only. [Test.1] [Test.5b]
+    pub const TEST: u32 = 21;
 
     /// Largest factor of inputs 1–4 and of inputs 5–8. [Widths.1]
     pub const WIDE_FACTOR: u32 = 0xF_FFFF;
@@ -182,6 +188,7 @@ impl Supervisor {
             kept_lines: 0,
             latched: false,
             kept_acknowledges: 0,
+            test: 0,
             branches: [Branch::fresh(), Branch::fresh(), Branch::fresh(), Branch::fresh()],
         }
     }
@@ -229,7 +236,7 @@ impl Supervisor {
         }
     }
 
-    /// [Active.1]; the blind count is no part of it. [Open: T8]
+    /// [Active.1]; blind count, modes and what waits are no part of it. [Open: T8] [Open: T9]
     #[inline]
     pub fn is_active(&self) -> bool {
         self.csr & csr::GO != 0

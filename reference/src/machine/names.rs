@@ -1,4 +1,4 @@
-//! The numbers and bits that have names: declines, registers, lines, words of a queue, and the sizes.
+//! The numbers and bits that have names: declines, registers, test bits, lines, words of a queue, and the sizes.
 
 /// The numbers with which a call is declined. [Declines.1a]
 pub mod decline {
@@ -6,7 +6,7 @@ pub mod decline {
     pub const SPOILED: u8 = 1;
     /// The lent memory has not 4,096 words.
     pub const LENGTH: u8 = 2;
-    /// Register number over 20, a write to STATE, or memory place over 4,095.
+    /// Register number over 21, a write to STATE, a read of TEST, or memory place over 4,095.
     pub const NUMBER: u8 = 3;
     /// The supervisor is active.
     pub const ACTIVE: u8 = 4;
@@ -18,7 +18,7 @@ pub mod decline {
     pub const RUN: u8 = 7;
 }
 
-/// Bits of the CSR. [CSR.1] [CSR.2] [CSRWrite.1]
+/// Bits of the CSR. [CSR.1] [CSR.2] [CSRWrite.1] [Test.1]
 pub mod csr {
     pub const GO: u32 = 1 << 0;
     pub const PAUSE_ON_NEXT_SYNC: u32 = 1 << 1;
@@ -32,6 +32,8 @@ pub mod csr {
     pub const ROC_LOCK: u32 = 1 << 9;
     pub const ROC_LOCK_BRANCH_4: u32 = 1 << 10;
     pub const OVERRIDE_INHIBIT: u32 = 1 << 11;
+    pub const HOLD: u32 = 1 << 12;
+    pub const TEST_MODE: u32 = 1 << 13;
 
     pub const INHIBIT: u32 = 1 << 16;
     pub const LATE_FAIL: u32 = 1 << 17;
@@ -39,11 +41,13 @@ pub mod csr {
     pub const WRITE_ERROR: u32 = 1 << 19;
     pub const READ_ERROR: u32 = 1 << 20;
 
-    /// Bits 0–11, which a write sets and clears.
-    pub const CONTROLS: u32 = 0x0000_0FFF;
+    /// Bits 0–13, which a write sets and clears.
+    pub const CONTROLS: u32 = 0x0000_3FFF;
+    /// The two modes of service. [Test.1]
+    pub const MODES: u32 = HOLD | TEST_MODE;
     /// Bits 16–20, the status bits.
     pub const STATUS: u32 = 0x001F_0000;
-    /// What a record that is not spoiled may store. [Spoiled.1a]
+    /// What a record that is not spoiled may store. [Spoiled.1a] [Test.10]
     pub const STORED: u32 = CONTROLS | STATUS;
     /// The bits that RESET clears. [CSRWrite.2d]
     pub const CLEARED_BY_RESET: u32 = GO | PAUSE_ON_NEXT_SYNC | PAUSE_AND_SYNC | FORCE_SYNC;
@@ -54,10 +58,10 @@ pub mod csr {
     pub const RESET: u32 = 1 << 14;
     /// Only in a written value: clear the status bits.
     pub const CLEAR_STATUS: u32 = 1 << 31;
-    /// Only in a written value: bits 16–27 clear bits 0–11.
+    /// Only in a written value: bits 16–29 clear bits 0–13.
     pub const CLEAR_SHIFT: u32 = 16;
-    /// A write with one of these (12, 13, 28, 29, 30) is declined. [Declines.2d]
-    pub const NOT_TAKEN: u32 = 0x7000_3000;
+    /// A write with bit 30 is declined. [Declines.2d] [Test.10]
+    pub const NOT_TAKEN: u32 = 1 << 30;
 }
 
 /// Bits of the trigger control register. [Control.1]
@@ -78,6 +82,26 @@ pub mod control {
             triggers & (control >> ENABLE_SHIFT) & super::TRIGGER_BITS
         }
     }
+}
+
+/// Bits of TEST, as section 3.10 of source document 001 has them. [Test.1]
+pub mod test {
+    /// Pulses every enabled input, with the strobe. [Test.3]
+    pub const LEVEL_1_PASS: u32 = 1 << 0;
+    pub const LEVEL_2_PASS: u32 = 1 << 2;
+    pub const LEVEL_3_PASS: u32 = 1 << 3;
+    pub const LEVEL_2_FAIL: u32 = 1 << 4;
+    pub const LEVEL_3_FAIL: u32 = 1 << 5;
+    /// Lets one tick through under hold. [Test.8a]
+    pub const SINGLE_STEP: u32 = 1 << 7;
+    pub const FRONT_BUSY: u32 = 1 << 8;
+    pub const INHIBIT: u32 = 1 << 9;
+    /// The acknowledges of branch 1; those of branch b are at bit 9 + b.
+    pub const ACKNOWLEDGE_SHIFT: u32 = 10;
+    /// Puts the written acknowledges in force. [Test.4]
+    pub const ENABLE_ACKNOWLEDGES: u32 = 1 << 14;
+    /// What a write takes: all but 1, 6, 15 and those above. [Test.5a]
+    pub const BITS: u32 = 0x0000_7FBD;
 }
 
 /// The seven lines that a tick takes in. [Tick.1]

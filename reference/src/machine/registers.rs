@@ -1,10 +1,11 @@
 //! Register write and read, whole and by bytes, and what a write to the CSR does.
 
 use super::bytes::Run;
-use super::{control, csr, decline, Branch, Count20, Count40, Supervisor};
+use super::{control, csr, decline, test, Branch, Count20, Count40, Supervisor};
 
 /// The bits that a write to each register takes. [Registers.1] [Widths.1] [Widths.2] [Control.1] [Declines.2d]
-const TAKEN_BITS: [u32; 20] = [
+/// [Test.5a]
+const TAKEN_BITS: [u32; 22] = [
     !csr::NOT_TAKEN,
     control::BITS,
     Supervisor::WIDE_FACTOR,
@@ -25,6 +26,8 @@ const TAKEN_BITS: [u32; 20] = [
     u32::MAX, // any value zeroes the scaler [Registers.3]
     u32::MAX,
     0x7F, // and of these only the listed codes
+    0,    // STATE, which no write reaches
+    test::BITS,
 ];
 
 /// The assign codes that are listed. [Assign.1]
@@ -33,12 +36,12 @@ pub(super) const fn is_listed(assign: u32) -> bool {
     matches!(assign, 0x00..=0x3F | 0x50..=0x5F)
 }
 
-/// The registers that a write reaches: STATE is read only. [Declines.2b] [State.8b]
+/// The registers that a write reaches: STATE is read only. [Declines.2b] [State.8b] [Test.1]
 const fn is_writable(number: u32) -> bool {
-    number <= Supervisor::ASSIGN
+    number <= Supervisor::ASSIGN || number == Supervisor::TEST
 }
 
-/// Whether a write of this value to this register (0–19) escapes decline 5. [Declines.2d]
+/// Whether a write of this value to this register (0–19, 21) escapes decline 5. [Declines.2d]
 const fn is_taken(number: u32, value: u32) -> bool {
     value & !TAKEN_BITS[number as usize] == 0 && (number != Supervisor::ASSIGN || is_listed(value))
 }
@@ -51,13 +54,14 @@ impl Supervisor {
 
     /// Writes the bytes of a register from `first` on, `count` of them. The value's bytes stand in place, those outside
     /// the run are ignored. Declines 1, 3, 7, 4, 5 in this order. [Declines.2a]–[Declines.2d] [Bytes.7] [Bytes.11]
+    /// [Test.2]
     pub fn write_bytes(&mut self, number: u32, first: u32, count: u32, value: u32) -> Result<(), u8> {
         self.not_spoiled()?;
         if !is_writable(number) {
             return Err(decline::NUMBER);
         }
         let run = Run::new(first, count)?;
-        if matches!(number, Self::CONTROL..=Self::T5) && self.is_active() {
+        if matches!(number, Self::CONTROL..=Self::T5) && self.is_active() && !self.is_open(number) {
             self.csr |= csr::WRITE_ERROR;
             return Err(decline::ACTIVE);
         }
@@ -92,6 +96,7 @@ impl Supervisor {
                 // [Registers.3] [Bytes.4a] [Bytes.6]
                 self.scalers[scaler] = if run.holds_byte_3() { 0 } else { self.scalers[scaler] };
             }
+            Self::TEST => self.write_test(value),
             _ => self.assign = value,
         }
     }
@@ -115,8 +120,8 @@ impl Supervisor {
         Ok(run.cut(value))
     }
 
-    /// A register's stored value, and STATE as the record stands; none where there is no such register. [Declines.3b]
-    /// [State.8a]
+    /// A register's stored value, and STATE as the record stands; none where there is no such register, and for TEST.
+    /// [Declines.3b] [State.8a] [Test.5b]
     pub(super) fn value_of(&self, number: u32) -> Option<u32> {
         Some(match number {
             Self::CSR => self.csr,
@@ -137,7 +142,7 @@ impl Supervisor {
         })
     }
 
-    /// [CSRWrite.1]–[CSRWrite.3]
+    /// [CSRWrite.1]–[CSRWrite.3] [Test.10]
     fn write_csr(&mut self, value: u32) {
         if value & csr::INITIALIZE != 0 {
             *self = Self::fresh();
@@ -158,7 +163,8 @@ impl Supervisor {
     }
 
     /// [CSRWrite.2d] [Main.17] [Blind.3]; the user sync is one of the sequencers that go idle. What the latest tick
-    /// brought and did is kept, and so are the latches. [State.3] [Bytes.5b]
+    /// brought and did is kept, and so are the latches and both modes; what waits is dropped. [State.3] [Bytes.5b]
+    /// [Test.8b]
     fn reset(&mut self) {
         self.csr &= !csr::CLEARED_BY_RESET;
         self.counters = self.factors;
@@ -166,6 +172,7 @@ impl Supervisor {
         self.sync_count = 0;
         self.user_sync_waiting = false;
         self.blind = 0;
+        self.drop_waiting();
         self.branches = [Branch::fresh(), Branch::fresh(), Branch::fresh(), Branch::fresh()];
         self.idle_main();
     }

@@ -39,7 +39,7 @@ pub struct Answer {
 }
 
 impl Supervisor {
-    /// One tick of 20 ns. Declines 1, 2, 5. [Declines.5a]–[Declines.5c]
+    /// One tick of 20 ns. Declines 1, 2, 5, which use up nothing that waits. [Declines.5a]–[Declines.5c] [Open: T9]
     pub fn tick(&mut self, memory: &[u16], triggers: u32, lines: u32, acknowledges: u32) -> Result<Answer, u8> {
         if self.is_spoiled() {
             return Err(decline::SPOILED);
@@ -50,6 +50,15 @@ impl Supervisor {
         if triggers > TRIGGER_BITS || lines > line::ALL {
             return Err(decline::VALUE);
         }
+
+        // Hold and test mode, with one test where both are off. [Test.2] [Test.6] [Test.7a]
+        let outside = (triggers, lines, acknowledges);
+        let (triggers, lines, acknowledges) = match self.csr & csr::MODES {
+            0 => outside,
+            _ if self.is_held() => return Ok(self.held(triggers, lines)),
+            _ => self.in_force(outside),
+        };
+        self.use_up();
 
         // What the moves below test of the tick's start. [Tick.2]
         let start_csr = self.csr;
@@ -207,7 +216,7 @@ impl Supervisor {
 
     /// [Answer.1] [Main.16]
     #[inline]
-    fn lines_out(&self) -> u16 {
+    pub(super) fn lines_out(&self) -> u16 {
         let line = |up: bool, bit: u16| u16::from(up) * bit;
         line(self.level_1_ok, line_out::LEVEL_1_OK)
             | line(self.level_2_start, line_out::LEVEL_2_START)

@@ -37,7 +37,7 @@ fn declined_calls_leave_it() {
     let mut account = kept(0x1FFE, 2);
     let before = account.clone();
     account.write_register(Supervisor::CONTROL, 0, Err(4)); // [Account.5]
-    account.write_register(Supervisor::CSR, csr::INITIALIZE | 1 << 12, Err(5));
+    account.write_register(Supervisor::CSR, csr::INITIALIZE | 1 << 30, Err(5));
     account.tick(0xFFF, 0, &Err(5));
     assert_eq!(account, before);
 }

@@ -175,7 +175,7 @@ fn no_other_call_moves_the_count() {
     }
     let Unit { record, memory } = &mut unit;
     assert_eq!(record.write_register(20, 0), Err(3));
-    assert_eq!(record.write_register(0, 1 << 12), Err(5));
+    assert_eq!(record.write_register(0, 1 << 30), Err(5));
     assert_eq!(record.write_memory(memory, 1, 3), Ok(()));
     assert_eq!(record.read_memory(memory, 1), Ok(3));
     assert_eq!(record.read_memory(memory, 4_096), Err(3));

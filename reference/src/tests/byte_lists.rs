@@ -76,7 +76,7 @@ impl List {
         let before = self.record.clone();
         let acknowledges = random.acknowledges();
         let answer = self.record.tick(&self.memory, triggers, lines, acknowledges);
-        let slow = plain::tick(&before, &self.memory, triggers, lines, acknowledges);
+        let slow = plain_test::tick(&before, &self.memory, triggers, lines, acknowledges);
         assert_eq!((answer.unwrap(), self.record.clone()), slow);
         self.met.above += u32::from(above && self.record.counters != before.counters);
         self.account.tick(triggers, lines, &answer);
@@ -99,7 +99,7 @@ impl List {
     /// A stop, settings by bytes and whole with pulses between, and a start.
     fn set_up(&mut self, random: &mut Random) {
         let stop = random.pick(&[0x000F_0000, 0x000F_0000, csr::RESET, csr::INITIALIZE]);
-        self.write(Supervisor::CSR, (0, 4), stop);
+        self.write(Supervisor::CSR, (0, 4), stop | csr::MODES << 16);
         for _ in 0..60 {
             self.tick(random);
         }

@@ -178,17 +178,20 @@ fn the_order_of_the_declines() {
             assert_eq!(record.read_bytes(number, first, count), Err(1));
             assert_eq!(record, spoiled());
         }
-        for number in [20, 21, 255, u32::MAX] {
+        for number in [20, 22, 255, u32::MAX] {
             // 3 before 7. [Bytes.11] [State.8b]
             assert_eq!(active().write_bytes(number, first, count, u32::MAX), Err(3));
             let expected = if number == Supervisor::STATE { 7 } else { 3 };
             assert_eq!(active().read_bytes(number, first, count), Err(expected));
         }
+        // TEST is written only. [Test.1] [Test.5b]
+        assert_eq!(active().write_bytes(Supervisor::TEST, first, count, u32::MAX), Err(7));
+        assert_eq!(active().read_bytes(Supervisor::TEST, first, count), Err(3));
         for way in ways_to_be_active() {
             // 7 before 4, so that no status bit is set, and before 5.
             let mut record = way.clone();
             assert_eq!(record.write_bytes(Supervisor::T5, first, count, u32::MAX), Err(7));
-            assert_eq!(record.write_bytes(Supervisor::CSR, first, count, 1 << 12), Err(7));
+            assert_eq!(record.write_bytes(Supervisor::CSR, first, count, 1 << 30), Err(7));
             assert_eq!(record.read_bytes(Supervisor::T5, first, count), Err(7));
             assert_eq!(record, way);
         }

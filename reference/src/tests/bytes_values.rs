@@ -19,20 +19,21 @@ fn takes(number: u32, stood: u32, run: (u32, u32), value: u32) -> Result<(), u8>
 /// The bits that a register takes, but for the codes of register 19. [Declines.2d]
 fn width(number: u32) -> u32 {
     match number {
-        0 => 0x8FFF_CFFF,
+        0 => 0xBFFF_FFFF,
         1 => 0x9FFF,
         2..=5 => 0xF_FFFF,
         6..=9 => 0x3FFF,
         11..=15 => 0xFFFF,
         16 => 0xFF,
         19 => 0x3F,
+        21 => 0x7FBD,
         _ => u32::MAX,
     }
 }
 
 #[test]
 fn every_bit_in_every_run() {
-    for number in 0..=19 {
+    for number in (0..=19).chain([21]) {
         for (first, count, bits) in RUNS {
             for bit in 0..32 {
                 let value = 1 << bit;

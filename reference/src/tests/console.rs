@@ -215,7 +215,8 @@ fn values_in_capitals() {
 
 #[test]
 fn declines_in_decimal() {
-    assert_eq!(run("W 15 00000000\nR 15\nW FF 00000000\nR FF\n"), "no 3\nno 3\nno 3\nno 3\n"); // [Open: K4]
+    assert_eq!(run("W 16 00000000\nR 16\nW FF 00000000\nR FF\n"), "no 3\nno 3\nno 3\nno 3\n"); // [Open: K4]
+    assert_eq!(run("W 15 00007FBD\nW 15 00000002\nR 15\n"), "ok\nno 5\nno 3\n"); // [Test.5a] [Test.5b]
     assert_eq!(run("W 14 00000000\nR 14\n"), "no 3\n49242000\n"); // [State.8a] [State.8b]
     assert_eq!(run("T 000 80 00000000\nT 000 FF 00000000\n"), "no 5\nno 5\n");
     assert_eq!(run("W 09 00004000\nW 09 00003FFF\nR 09\n"), "no 5\nok\n00003FFF\n"); // [Bench.9]

@@ -16,29 +16,29 @@ fn expect(before: u32, value: u32, after: u32) {
 }
 
 #[test]
-fn bits_0_to_11_set() {
-    for bit in 0..12 {
+fn bits_0_to_13_set() {
+    for bit in 0..14 {
         expect(0, 1 << bit, 1 << bit); // [CSRWrite.2a]
         expect(0x0000_0AAA, 1 << bit, 0x0000_0AAA | 1 << bit);
     }
-    expect(0, 0x0000_0FFF, 0x0000_0FFF);
+    expect(0, 0x0000_3FFF, 0x0000_3FFF); // [Test.10]
     expect(0x001F_0A5A, 0, 0x001F_0A5A);
 }
 
 #[test]
-fn bits_16_to_27_clear() {
-    for bit in 0..12 {
-        expect(0x001F_0FFF, 1 << (bit + 16), 0x001F_0FFF & !(1 << bit));
+fn bits_16_to_29_clear() {
+    for bit in 0..14 {
+        expect(0x001F_3FFF, 1 << (bit + 16), 0x001F_3FFF & !(1 << bit));
     }
-    expect(0x001F_0FFF, 0x0FFF_0000, 0x001F_0000); // status bits are not written
+    expect(0x001F_3FFF, 0x3FFF_0000, 0x001F_0000); // status bits are not written
 }
 
 #[test]
 fn clear_wins() {
-    for bit in 0..12 {
+    for bit in 0..14 {
         let both = 1 << bit | 1 << (bit + 16);
         expect(0, both, 0); // [CSRWrite.2a]
-        expect(0x0000_0FFF, both, 0x0000_0FFF & !(1 << bit));
+        expect(0x0000_3FFF, both, 0x0000_3FFF & !(1 << bit));
     }
 }
 
@@ -67,7 +67,7 @@ fn bit_31_clears_the_status_bits() {
 
 #[test]
 fn reset_clears_bits_0_to_3_and_keeps_the_rest() {
-    expect(0x001F_0FFF, csr::RESET, 0x001F_0FF0); // [CSRWrite.2d] [Open: R5]
+    expect(0x001F_3FFF, csr::RESET, 0x001F_3FF0); // [CSRWrite.2d] [Open: R5] [Test.8b]
     expect(0, csr::RESET | 0x0FFF, 0x0000_0FF0);
     expect(0x001F_0FFF, csr::RESET | csr::CLEAR_STATUS | 0x0FF0_0000, 0);
 }
@@ -109,6 +109,8 @@ fn busy() -> Unit {
     assert_eq!((unit.record.main, unit.record.sync_count, unit.record.scalers), (MainState::Wait3, 2, [2, 3]));
     assert_eq!((unit.record.counters[0], unit.record.counters[7]), (5, 1));
     unit.record.blind = 2; // no list of calls has it in a cycle
+    unit.write(Supervisor::TEST, 0x7FBD);
+    assert_eq!(unit.record.test, 0x7F3D);
     assert_eq!((unit.read(Supervisor::SCALER_0), unit.read(Supervisor::SCALER_1)), (2, 3));
     assert_eq!(unit.record.latches, [2, 3]);
     unit
@@ -155,7 +157,7 @@ fn reset_ends_a_user_sync() {
 
 #[test]
 fn initialize_in_full() {
-    for rest in [0, csr::RESET, 0x8FFF_0FFF, 0x8FFF_0FFF | csr::RESET] {
+    for rest in [0, csr::RESET, 0xBFFF_3FFF, 0xBFFF_3FFF | csr::RESET] {
         let mut unit = busy();
         let memory = unit.memory.clone();
         unit.write(Supervisor::CSR, csr::INITIALIZE | rest); // the rest is ignored [CSRWrite.1]
@@ -166,12 +168,15 @@ fn initialize_in_full() {
 
 #[test]
 fn initialize_does_not_save_a_bad_value() {
-    for bit in [12, 13, 28, 29, 30] {
+    let mut unit = busy();
+    let before = unit.record.clone();
+    let value = csr::INITIALIZE | 1 << 30;
+    assert_eq!(unit.record.write_register(Supervisor::CSR, value), Err(5)); // [Open: R2]
+    assert_eq!(unit.record, before);
+    for bit in [12, 13, 28, 29] {
         let mut unit = busy();
-        let before = unit.record.clone();
-        let value = csr::INITIALIZE | 1 << bit;
-        assert_eq!(unit.record.write_register(Supervisor::CSR, value), Err(5)); // [Open: R2]
-        assert_eq!(unit.record, before);
+        unit.write(Supervisor::CSR, csr::INITIALIZE | 1 << bit); // [Test.10]
+        assert_eq!(unit.record, Supervisor::fresh());
     }
 }
 

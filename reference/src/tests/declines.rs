@@ -71,7 +71,7 @@ fn takes(number: u32, value: u32) -> Result<(), u8> {
 
 #[test]
 fn register_write_1() {
-    for number in 0..=20 {
+    for number in 0..=22 {
         let mut record = spoiled();
         assert_eq!(record.write_register(number, u32::MAX), Err(1)); // [Declines.2a]
         assert_eq!(record, spoiled());
@@ -82,7 +82,7 @@ fn register_write_1() {
 
 #[test]
 fn register_write_3() {
-    for number in [20, 21, 255, u32::MAX] {
+    for number in [20, 22, 255, u32::MAX] {
         assert_eq!(takes(number, 0), Err(3)); // [Declines.2b]
         assert_eq!(takes(number, u32::MAX), Err(3), "before 5");
         let mut record = active();
@@ -94,7 +94,7 @@ fn register_write_3() {
 #[test]
 fn register_write_4() {
     for way in ways_to_be_active() {
-        for number in 0..=19 {
+        for number in (0..=19).chain([21]) {
             let mut record = way.clone();
             let answer = record.write_register(number, 0);
             if (1..=16).contains(&number) {
@@ -112,15 +112,16 @@ fn register_write_4() {
 
 #[test]
 fn register_write_5_on_every_bit() {
-    for number in 0..=19u32 {
+    for number in (0..=19u32).chain([21]) {
         let width = match number {
-            0 => 0x8FFF_CFFF,
+            0 => 0xBFFF_FFFF,
             1 => 0x9FFF,
             2..=5 => 0xF_FFFF,
             6..=9 => 0x3FFF,
             11..=15 => 0xFFFF,
             16 => 0xFF,
             10 | 17 | 18 => u32::MAX,
+            21 => 0x7FBD, // [Test.5a]
             _ => 0x3F,
         };
         for bit in 0..32 {
@@ -138,7 +139,7 @@ fn register_write_5_on_every_bit() {
 #[test]
 fn register_write_5_while_active() {
     let mut record = active();
-    assert_eq!(record.write_register(Supervisor::CSR, 1 << 12), Err(5));
+    assert_eq!(record.write_register(Supervisor::CSR, 1 << 30), Err(5));
     assert_eq!(record.write_register(Supervisor::ASSIGN, 0x40), Err(5));
     assert_eq!(record, active(), "5 sets no status bit"); // [Open: A1]
 }

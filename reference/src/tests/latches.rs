@@ -125,7 +125,7 @@ fn declined_reads_latch_nothing() {
             assert_eq!(unit.record.read_bytes(number, first, count), Err(7)); // [Bytes.11]
         }
     }
-    assert_eq!(unit.record.read_register(21), Err(3));
+    assert_eq!(unit.record.read_register(22), Err(3));
     assert_eq!(unit.record, holding(SCALERS, LATCHES).record);
     unit.record.age = Supervisor::AGE_LIMIT + 1;
     assert_eq!(unit.record.read_register(17), Err(1)); // [Declines.3a]

@@ -14,11 +14,13 @@ mod cycle;
 mod declines;
 mod declines_memory;
 mod front_space_clear;
+mod held_clock;
 mod latches;
 mod owed;
 mod plain;
 mod plain_bytes;
 mod plain_state;
+mod plain_test;
 mod pulses;
 mod random;
 mod random_bytes;
@@ -29,6 +31,10 @@ mod spoiled;
 mod state;
 mod state_calls;
 mod syncs;
+mod test_account;
+mod test_lists;
+mod test_mode;
+mod test_pulses;
 
 use crate::machine::*;
 

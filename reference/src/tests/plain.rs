@@ -1,5 +1,5 @@
-//! The tick and the spoiled rule a second time, slow and close to the paper: every test is made on `start`, every
-//! change on `next` [Tick.2], input by input and place by place. The quick forms are compared with these.
+//! The tick that runs and the spoiled rule a second time, slow and close to the paper: every test is made on `start`,
+//! every change on `next` [Tick.2], input by input and place by place. The quick forms are compared with these.
 
 use super::*;
 
@@ -10,7 +10,7 @@ fn bit(value: u32, number: u32) -> bool {
 pub fn is_spoiled(r: &Supervisor) -> bool {
     // [Spoiled.1a]: registers 0–19 in their order.
     let fits = |value: u32, width: u32| u64::from(value) < 1 << width;
-    let csr = (0..32).any(|b| bit(r.csr, b) && !(b <= 11 || (16..=20).contains(&b)));
+    let csr = (0..32).any(|b| bit(r.csr, b) && !(b <= 13 || (16..=20).contains(&b)));
     let control = (0..32).any(|b| bit(r.control, b) && !(b <= 12 || b == 15));
     let factors = (0..8).any(|i| !fits(r.factors[i], if i < 4 { 20 } else { 14 }));
     let timers = [r.t1, r.t2, r.t3, r.t4].iter().any(|t| !fits(t.0, 16)) || !fits(r.t5.0, 8);
@@ -38,7 +38,8 @@ pub fn is_spoiled(r: &Supervisor) -> bool {
         || (r.main != MainState::Idle && r.user_sync_waiting)
 }
 
-pub fn tick(start: &Supervisor, memory: &[u16], triggers: u32, lines: u32, acknowledges: u32) -> (Answer, Supervisor) {
+/// A tick that runs, with what is in force in it; `plain_test` says when and with what. [Test.2] [Test.7a]
+pub fn run(start: &Supervisor, memory: &[u16], triggers: u32, lines: u32, acknowledges: u32) -> (Answer, Supervisor) {
     let mut next = start.clone();
     let csr = |b| bit(start.csr, b);
     let line = |b| bit(lines, b);
@@ -262,27 +263,31 @@ pub fn tick(start: &Supervisor, memory: &[u16], triggers: u32, lines: u32, ackno
         next.scalers[0] = ((u64::from(start.scalers[0]) + 1) % (1 << 32)) as u32;
     }
 
-    // Lines out after the tick. [Answer.1] [Main.16]
-    let raised = [
-        next.level_1_ok,
-        next.level_2_start,
-        next.level_2_accept,
-        next.level_3_start,
-        next.level_3_accept,
-        next.clear_count > 0,
-        bit(next.csr, 5),
-    ];
-    let low: u16 = raised.iter().enumerate().map(|(b, &up)| u16::from(up) << b).sum();
     let answer = Answer {
         stopped: stopped as u16,
         scaled: scaled as u16,
         lost: lost as u16,
         rejected: rejected as u16,
         accepted: accepted as u16,
-        lines: low + 256 * u16::from(next.accept_pattern),
+        lines: lines_out(&next),
         outcome,
         finished,
         shown,
     };
     (answer, next)
+}
+
+/// The lines out of a record. [Answer.1] [Main.16]
+pub fn lines_out(r: &Supervisor) -> u16 {
+    let raised = [
+        r.level_1_ok,
+        r.level_2_start,
+        r.level_2_accept,
+        r.level_3_start,
+        r.level_3_accept,
+        r.clear_count > 0,
+        bit(r.csr, 5),
+    ];
+    let low: u16 = raised.iter().enumerate().map(|(b, &up)| u16::from(up) << b).sum();
+    low + 256 * u16::from(r.accept_pattern)
 }

@@ -1,4 +1,5 @@
-//! Byte-wise write and read a second time, slow: byte by byte, and then the plain call with what it must not do undone.
+//! Byte-wise write and read a second time, slow: byte by byte, and then the plain call with what it must not do undone,
+//! or for the CSR, control and TEST the slow one.
 
 use super::bytes::RUNS;
 use super::*;
@@ -26,13 +27,21 @@ pub fn bits(first: u32, count: u32) -> u32 {
 
 pub fn write(start: &Supervisor, number: u32, run: (u32, u32), value: u32) -> (Result<(), u8>, Supervisor) {
     let mut next = start.clone();
-    let first_declines = [(start.is_spoiled(), 1), (number > 19, 3), (!is_run(run.0, run.1), 7)]; // [Bytes.11]
+    let unknown = number > 19 && number != 21; // [State.8b] [Test.1]
+    let first_declines = [(start.is_spoiled(), 1), (unknown, 3), (!is_run(run.0, run.1), 7)]; // [Bytes.11]
     if let Some((_, decline)) = first_declines.into_iter().find(|&(is, _)| is) {
         return (Err(decline), next);
     }
     let run = bits(run.0, run.1);
-    let stored = if number == 0 { 0 } else { start.clone().read_register(number).unwrap() }; // [Bytes.3a] [Bytes.3b]
-    let answer = next.write_register(number, mixed(run, value, stored));
+    let stored = match number {
+        0 | 21 => 0,                                       // [Bytes.3b] [Open: T9]
+        _ => start.clone().read_register(number).unwrap(), // [Bytes.3a]
+    };
+    let merged = mixed(run, value, stored);
+    if matches!(number, 0 | 1 | 21) {
+        return plain_test::write(start, number, merged); // [Test.2] [Test.10]
+    }
+    let answer = next.write_register(number, merged);
     if run & 0xFF == 0 {
         match number {
             2..=9 => next.counters = start.counters, // [Bytes.4a]

@@ -57,7 +57,7 @@ fn is_ready(r: &Supervisor) -> bool {
     hindrances == [false; 7]
 }
 
-fn is_active(r: &Supervisor) -> bool {
+pub fn is_active(r: &Supervisor) -> bool {
     let at_work = |branch: &Branch| branch.used != 0 || branch.state != BranchState::Rest;
     csr(r, 0) || r.main != MainState::Idle || r.user_sync_waiting || wanted(r) || r.branches.iter().any(at_work)
 }

@@ -69,7 +69,21 @@ impl Random {
             Supervisor::SYNC_INTERVAL => self.below(7),
             Supervisor::T1..=Supervisor::T5 => self.below(7),
             Supervisor::ASSIGN => self.pick(&[0x00, 0x01, 0x09, 0x0D, 0x0E, 0x0F, 0x10, 0x2F, 0x30, 0x50, 0x5F, 0x40]),
+            Supervisor::TEST => self.test_value(),
             _ => self.next(),
+        }
+    }
+
+    /// A value for TEST: pulses, a step, written acknowledges, any good bits, or any.
+    pub fn test_value(&mut self) -> u32 {
+        let any = self.next();
+        match self.below(6) {
+            0 => test::LEVEL_1_PASS | any & 0x3C,
+            1 => test::SINGLE_STEP | any & 0x3D,
+            2 => test::ENABLE_ACKNOWLEDGES | any & 0x3C00,
+            3 => 1 << self.below(16),
+            4 => any & test::BITS,
+            _ => any & self.next() & test::BITS,
         }
     }
 

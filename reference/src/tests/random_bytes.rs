@@ -21,13 +21,14 @@ pub(super) fn random_run(random: &mut Random) -> (u32, u32) {
 /// A value whose bytes are mostly taken.
 pub(super) fn random_value(random: &mut Random, number: u32) -> u32 {
     let width = match number {
-        0 => 0x8FFF_4FFF,
+        0 => 0xBFFF_7FFF,
         1 => 0x9FFF,
         2..=5 => 0xF_FFFF,
         6..=9 => 0x3FFF,
         11..=15 => 0xFFFF,
         16 => 0xFF,
         19 => 0x5F,
+        21 => 0x7FBD,
         _ => u32::MAX,
     };
     match random.below(4) {
@@ -58,7 +59,7 @@ fn a_write_by_bytes_is_the_slow_one() {
     for _ in 0..200_000 {
         let mut record = some_record(&mut random);
         let before = record.clone();
-        let (number, run) = (random.below(22), random_run(&mut random));
+        let (number, run) = (random.below(23), random_run(&mut random));
         let value = random_value(&mut random, number);
         let answer = record.write_bytes(number, run.0, run.1, value);
         let expected = plain_bytes::write(&before, number, run, value);
@@ -71,6 +72,7 @@ fn a_write_by_bytes_is_the_slow_one() {
     let met = |is: &dyn Fn(u32, Result<(), u8>) -> bool| met.iter().filter(|&&(n, _, answer)| is(n, answer)).count();
     assert_eq!(met(&|number, answer| number <= 19 && answer == Ok(())), 200);
     assert_eq!(met(&|number, answer| number <= 19 && answer == Err(4)), 160);
+    assert_eq!(met(&|number, answer| number == Supervisor::TEST && answer == Ok(())), 10); // [Test.1]
     assert!(met(&|_, answer| answer == Err(5)) > 100);
 }
 

@@ -53,6 +53,8 @@ pub(super) fn random_record(random: &mut Random) -> Supervisor {
     r.latched = random.flip();
     let any = random.next();
     r.kept_acknowledges = random.pick(&[0, u32::MAX, r.roc_enable, !r.roc_enable, any]);
+    // Odd bits that wait do nothing. [Open: T9]
+    r.test = random.mask() & random.pick(&[0, 0x7FBD, u32::MAX]);
     let full = r.user_sync_waiting || matches!(r.main, MainState::Space | MainState::SyncHold);
     let all_empty = random.once_in(3);
     for branch in &mut r.branches {
@@ -78,8 +80,8 @@ fn any_record_that_is_not_spoiled_stays_so() {
         assert_eq!(record.read_register(Supervisor::STATE), Ok(plain_state::state(&before)), "{before:?}");
         assert_eq!(record, before); // STATE's read latches nothing [Declines.3b] [Bytes.5a]
         if random.once_in(4) {
-            let number = random.below(21);
-            let value = if random.flip() { random.next() & 0x8FFF_4FFF } else { random.register_value(number) };
+            let number = random.below(22);
+            let value = if random.flip() { random.next() & 0xBFFF_7FFF } else { random.register_value(number) };
             let _ = record.write_register(number, value);
             let _ = record.read_register(random.below(21)); // a scaler's too [Bytes.5a]
             let _ = record.read_memory(&memory, 0);
@@ -87,7 +89,7 @@ fn any_record_that_is_not_spoiled_stays_so() {
             memory[random.below(4_096) as usize] = random.memory_word();
             let (triggers, lines, acknowledges) = (random.mask() & 0xFFF, random.lines(), random.acknowledges());
             let answer = record.tick(&memory, triggers, lines, acknowledges).unwrap();
-            let (plain_answer, plain_record) = plain::tick(&before, &memory, triggers, lines, acknowledges);
+            let (plain_answer, plain_record) = plain_test::tick(&before, &memory, triggers, lines, acknowledges);
             assert_eq!((answer, &record), (plain_answer, &plain_record), "{before:?}");
         }
         assert!(!record.is_spoiled() && !plain::is_spoiled(&record), "{before:?}");
@@ -103,7 +105,7 @@ fn the_quick_spoiled_test_is_the_slow_one() {
         let wild = random.next() >> random.below(32);
         let input = random.below(8) as usize;
         let b = random.below(4) as usize;
-        match random.below(24) {
+        match random.below(25) {
             0 => r.csr = wild,
             1 => r.control = wild,
             2 => r.factors[input] = wild,
@@ -127,6 +129,7 @@ fn the_quick_spoiled_test_is_the_slow_one() {
             20 => r.blind = wild,
             21 => r.kept_lines = wild,
             22 => r.latches = [wild; 2],
+            23 => r.test = wild,
             _ => r.main = random.pick(&[MainState::Idle, MainState::Wait2, MainState::Front, MainState::Space]),
         }
         assert_eq!(r.is_spoiled(), plain::is_spoiled(&r), "{r:?}");

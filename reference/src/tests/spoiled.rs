@@ -40,7 +40,7 @@ fn leaves(change: impl Fn(&mut Supervisor)) {
 #[test]
 fn csr_bits() {
     for bit in 0..32 {
-        let stored = bit <= 11 || (16..=20).contains(&bit); // [Spoiled.1a]
+        let stored = bit <= 13 || (16..=20).contains(&bit); // [Spoiled.1a] [Test.10]
         expect(!stored, |r| r.csr = 1 << bit);
     }
     leaves(|r| r.csr = csr::STORED);

@@ -68,6 +68,7 @@ fn record_in(table: &[u64]) -> Supervisor {
         t5: Count20(register(16)),
         scalers: [register(17), register(18)],
         assign: register(19),
+        test: register(21),
         ..Supervisor::fresh()
     }
 }
@@ -99,7 +100,8 @@ fn model_ticks(n: u64, memory: &[u16], table: &[u64]) -> u64 {
     sum = fold(sum, u64::from(record.csr) | u64::from(record.sync_count) << 32);
     let latest = u64::from(record.kept_lines) | u64::from(record.latched) << 8;
     sum = fold(sum, latest | u64::from(record.kept_acknowledges) << 32);
-    fold(sum, u64::from(record.latches[0]) | u64::from(record.latches[1]) << 32)
+    sum = fold(sum, u64::from(record.latches[0]) | u64::from(record.latches[1]) << 32);
+    fold(sum, u64::from(record.test))
 }
 
 // ---- measuring
@@ -145,7 +147,7 @@ mod layout {
     #[repr(C)]
     pub struct Latest(u32, bool);
     #[repr(C)]
-    pub struct Core([[u32; 8]; 2], u32, u32, [u32; 3], [u32; 2], Main, Timers, [u16; 2], [u8; 2], Latest);
+    pub struct Core([[u32; 8]; 2], u32, u32, u32, [u32; 3], [u32; 2], Main, Timers, [u16; 2], [u8; 2], Latest);
     #[repr(C)]
     pub struct Supervisor(Readout, Core);
 }

@@ -2,7 +2,7 @@
 
 use reference::machine::MEMORY_WORDS;
 
-/// Inputs of the table; the registers 0–19 stand after them.
+/// Inputs of the table; the registers 0–21 stand after them, STATE as 0.
 pub const INPUTS: usize = 16_384;
 
 struct Random(u64);
@@ -92,6 +92,8 @@ pub fn table(traffic: Traffic) -> Vec<u64> {
         0,
         0,
         0x0E,
+        0,
+        0,
     ];
     table.extend(registers);
     table
@@ -103,6 +105,6 @@ pub fn holding(words: usize) -> Vec<u64> {
     for event in 0..words {
         table[event * 16] = 1;
     }
-    table.extend([1, 0x1FFE, 0, 0, 0, 0, 0, 0, 0, 0, 0x0101_0101, 0, 0, 0, 0, 0, 0, 0, 0, 0]);
+    table.extend([1, 0x1FFE, 0, 0, 0, 0, 0, 0, 0, 0, 0x0101_0101, 0, 0, 0, 0, 0, 0, 0, 0, 0, 0, 0]);
     table
 }

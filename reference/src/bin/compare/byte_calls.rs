@@ -3,7 +3,7 @@
 use crate::numbers::*;
 use crate::random::Random;
 use crate::values::{listed, number, value};
-use reference::machine::{control, csr, Supervisor};
+use reference::machine::{control, csr, test, Supervisor};
 
 /// First byte and count of the ten runs.
 pub const RUNS: [(u32, u32); 10] = [(0, 1), (1, 1), (2, 1), (3, 1), (0, 2), (1, 2), (2, 2), (0, 3), (1, 3), (0, 4)];
@@ -46,13 +46,14 @@ pub fn bits((first, count): (u32, u32)) -> u32 {
 /// The bits that a write takes, but for the codes of register 19. [Declines.2d]
 pub fn width(number: u32) -> u32 {
     match number {
-        0 => 0x8FFF_CFFF,
+        0 => 0xBFFF_FFFF,
         1 => 0x9FFF,
         2..=5 => 0xF_FFFF,
         6..=9 => 0x3FFF,
         11..=15 => 0xFFFF,
         16 => 0xFF,
         19 => 0x7F,
+        21 => test::BITS,
         _ => u32::MAX,
     }
 }

@@ -8,7 +8,7 @@ use reference::machine::csr;
 
 /// What is no run, and the registers written by a part of theirs.
 const NO_RUNS: [&str; 4] = ["empty", "leaves the four bytes", "starts behind them", "sum over 32 bits"];
-const REGISTERS: [&str; 10] = [
+const REGISTERS: [&str; 11] = [
     "CSR",
     "control",
     "factor of inputs 1-4",
@@ -19,6 +19,7 @@ const REGISTERS: [&str; 10] = [
     "T5",
     "scaler",
     "assign",
+    "TEST",
 ];
 
 const EVENTS: [&str; 28] = [
@@ -132,11 +133,11 @@ impl ByteCounts {
         };
         self.no_runs[side][kind] += u64::from(reply[0] == 7);
         let (number, value) = (call[1], call[2] as u32);
-        let is_bad = number <= 19 && value & !width(number as u32) != 0;
+        let is_bad = (number <= 19 || number == 21) && value & !width(number as u32) != 0;
         let is_behind = number == 17 && before[17] != before[LATCH] || number == 18 && before[18] != before[LATCH + 1];
         self.count([
             (4 + side, reply[0] == 1),
-            (6 + side, number > 20 && reply[0] == 3),
+            (6 + side, number > 21 && reply[0] == 3),
             (8, side == 0 && number == 20 && reply[0] == 3),
             (9, side == 1 && number == 20 && reply[0] == 7),
             (10, side == 0 && (1..=16).contains(&number) && is_active(before) && reply[0] == 7),
@@ -241,6 +242,7 @@ fn register(number: u32) -> usize {
         12..=15 => 6,
         16 => 7,
         17 | 18 => 8,
-        _ => 9,
+        19 => 9,
+        _ => 10,
     }
 }

@@ -3,9 +3,9 @@
 #[rustfmt::skip]
 const CALL_FAULTS: &[Fault] = &[
     fault(
-        "spoiled: CSR bit 12 passes",
+        "spoiled: CSR bit 14 passes",
         "(self.csr & !csr::STORED)",
-        "(self.csr & !(csr::STORED | 1 << 12))",
+        "(self.csr & !(csr::STORED | 1 << 14))",
     ),
     fault(
         "spoiled: control bits 13 and 14 pass",
@@ -103,7 +103,7 @@ const CALL_FAULTS: &[Fault] = &[
         "!is_taken(number, if number == 1 { value & !0x2000 } else { value })",
     ),
     fault(
-        "register write: INITIALIZE with bit 12 is taken",
+        "register write: INITIALIZE with bit 30 is taken",
         "!is_taken(number, value)",
         "!(is_taken(number, value) || (number == 0 && value & csr::INITIALIZE != 0))",
     ),

@@ -2,14 +2,16 @@
 
 use crate::numbers::*;
 use crate::random::Random;
+use reference::machine::{csr, test};
 
 /// One change.
 pub fn change(random: &mut Random, n: &mut Record) {
-    match random.below(34) {
+    match random.below(37) {
         which @ 0..=11 => change_setting(random, n, which),
         which @ 12..=24 => change_sequencer(random, n, which - 12),
         which @ 25..=30 => change_branch(random, n, which - 25),
-        _ => change_kept(random, n),
+        31..=33 => change_kept(random, n),
+        _ => change_waiting(random, n),
     }
 }
 
@@ -111,5 +113,18 @@ fn change_kept(random: &mut Random, n: &mut Record) {
         1 => n[LATCHED] ^= 1,
         2 => n[KEPT_ACKNOWLEDGES] = random.next().into(),
         _ => n[KEPT_ACKNOWLEDGES] = random.pick(&[0, 0xFFFF_FFFF, n[10], n[10] ^ 0xFFFF_FFFF]),
+    }
+}
+
+/// What waits, over its whole range, and a mode with it. [Open: T9]
+fn change_waiting(random: &mut Random, n: &mut Record) {
+    let any = random.next();
+    let (odd, one) = (any & !test::BITS, 1 << random.below(32));
+    n[TEST] = random.pick(&[0, any, odd, any & test::BITS, odd | test::LEVEL_1_PASS, one]).into();
+    match random.below(6) {
+        0 | 1 => n[0] |= u64::from(csr::TEST_MODE),
+        2 => n[0] ^= u64::from(csr::HOLD),
+        3 => n[0] |= u64::from(csr::MODES),
+        _ => {}
     }
 }

@@ -35,7 +35,7 @@ pub fn broken_clauses(n: &Record) -> [bool; CLAUSES.len()] {
     };
     let loaded = n[STATE] == 5 || n[STATE] == 6 || n[WAITING] == 1;
     [
-        n[0] & !0x1F_0FFF != 0,
+        n[0] & !0x1F_3FFF != 0,
         n[1] & !0x9FFF != 0,
         (0..4).any(|i| n[2 + i] > 0xF_FFFF),
         (4..8).any(|i| n[2 + i] > 0x3FFF),

@@ -1,15 +1,22 @@
 //! What the compared calls met: every state, decline, outcome, assignment and clause of the spoiled rule, the blind
-//! time, STATE and byte-wise access.
+//! time, STATE, byte-wise access, test mode and the held clock.
 
 use crate::blind_counts::{self, BlindCounts};
 use crate::byte_counts::ByteCounts;
 use crate::clauses::{broken_clauses, CLAUSES};
+use crate::held_counts::HeldCounts;
 use crate::numbers::*;
 use crate::owed_counts::OwedCounts;
 use crate::state_counts::StateCounts;
+use crate::test_counts::{in_force, TestCounts};
 use reference::machine::csr;
 
 pub const STATES: [&str; 8] = ["Idle", "Delay", "Wait 2", "Wait 3", "Front", "Space", "Sync hold", "Clear"];
+/// From and to, by number.
+#[rustfmt::skip]
+const MOVES: [(usize, usize); 14] = [
+    (0, 1), (0, 2), (1, 4), (2, 1), (2, 3), (2, 4), (2, 7), (3, 4), (3, 7), (4, 5), (4, 6), (5, 0), (6, 0), (7, 0),
+];
 const PHASES: [&str; 3] = ["Rest", "Strobe", "Drop"];
 const OUTCOMES: [&str; 7] = ["none", "cleared", "event", "event, sync", "event, late", "event, sync and late", "tag"];
 const MASKS: [&str; 5] = ["stopped", "scaled", "lost", "rejected", "accepted"];
@@ -54,6 +61,8 @@ pub struct Counts {
     state: StateCounts,
     bytes: ByteCounts,
     pub owed: OwedCounts,
+    tests: TestCounts,
+    holds: HeldCounts,
     clauses: [[u64; 2]; CLAUSES.len()],
 }
 
@@ -78,14 +87,21 @@ impl Counts {
             state: StateCounts::new(),
             bytes: ByteCounts::new(),
             owed: OwedCounts::new(),
+            tests: TestCounts::new(),
+            holds: HeldCounts::new(),
             clauses: [[0; 2]; CLAUSES.len()],
         }
     }
 
-    /// A call that both machines answered alike.
-    pub fn add(&mut self, before: &Record, call: Call, reply: &Reply, after: &Record) {
+    /// A call that both machines answered alike; `kept` says whether an account is kept.
+    pub fn add(&mut self, before: &Record, call: Call, reply: &Reply, after: &Record, kept: bool) {
         self.calls += 1;
+        self.accounts += u64::from(kept);
         self.replies[call[0] as usize][reply[0] as usize] += 1;
+        self.tests.add(before, call, reply, after, kept);
+        self.holds.add(before, call, reply, after, kept);
+        // The rest is about ticks that run, with what is in force in them.
+        let Some(call) = in_force(before, call, reply) else { return };
         self.blind.add(before, call, reply, after);
         self.state.add(before, call, reply, after);
         self.bytes.add(before, call, reply, after);
@@ -106,10 +122,16 @@ impl Counts {
         }
     }
 
+    /// The record that comes next is another: nothing is in hand for it.
+    pub fn forget(&mut self) {
+        self.tests.forget();
+        self.holds.forget();
+    }
+
     fn add_write(&mut self, before: &Record, call: Call, after: &Record) {
         let value = call[2] as u32;
         let place = if before[WAITING] == 1 { 8 } else { before[STATE] as usize };
-        if call[1] >= 17 && is_active(before) {
+        if (17..=19).contains(&call[1]) && is_active(before) {
             self.events[14] += 1;
         }
         if call[1] != 0 {
@@ -209,22 +231,7 @@ impl Counts {
         }
         row("user sync waiting".into(), self.user_waits);
         println!("Main's moves");
-        for (from, to) in [
-            (0, 1),
-            (0, 2),
-            (1, 4),
-            (2, 1),
-            (2, 3),
-            (2, 4),
-            (2, 7),
-            (3, 4),
-            (3, 7),
-            (4, 5),
-            (4, 6),
-            (5, 0),
-            (6, 0),
-            (7, 0),
-        ] {
+        for (from, to) in MOVES {
             row(format!("{} to {}", STATES[from], STATES[to]), self.moves[from][to]);
         }
         println!("Outcomes");
@@ -260,13 +267,13 @@ impl Counts {
         for (name, count) in blind_counts::EVENTS.iter().zip(self.blind.events) {
             row((*name).into(), count);
         }
-        println!("Reads of STATE");
-        for (name, count) in self.state.rows() {
-            row(name, count);
-        }
-        println!("Byte-wise access");
-        for (name, count) in self.bytes.rows().into_iter().chain(self.owed.rows()) {
-            row(name, count);
+        for (title, rows) in [
+            ("Reads of STATE", self.state.rows()),
+            ("Byte-wise access", [self.bytes.rows(), self.owed.rows()].concat()),
+            ("Test mode and the held clock", [self.tests.rows(), self.holds.rows()].concat()),
+        ] {
+            println!("{title}");
+            rows.into_iter().for_each(|(name, count)| row(name, count));
         }
         println!("Clauses of the spoiled rule");
         for (name, count) in CLAUSES.iter().zip(self.clauses) {

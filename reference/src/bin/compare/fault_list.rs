@@ -1,4 +1,5 @@
-// Wrong models: each has another expression at one place of src/machine. `build.rs` makes the faulty copy from this list.
+// Wrong models: each has another expression at one place of src/machine, the wrong accounts one of src/account.rs.
+// `build.rs` makes the faulty copies from these lists.
 
 struct Fault {
     #[allow(dead_code)]
@@ -20,9 +21,28 @@ include!("state_faults.rs");
 include!("kept_faults.rs");
 include!("byte_faults.rs");
 include!("latch_faults.rs");
+include!("test_faults.rs");
+include!("force_faults.rs");
+include!("held_faults.rs");
+include!("mode_faults.rs");
+include!("account_faults.rs");
 
-/// All of them, in order.
-fn faults() -> impl Iterator<Item = &'static Fault> {
-    let lists = [CALL_FAULTS, TICK_FAULTS, REQUEST_FAULTS, STATE_FAULTS, KEPT_FAULTS, BYTE_FAULTS, LATCH_FAULTS];
-    lists.into_iter().flatten()
+/// Those of the machine, in order.
+const MACHINE_FAULTS: [&[Fault]; 11] = [
+    CALL_FAULTS,
+    TICK_FAULTS,
+    REQUEST_FAULTS,
+    STATE_FAULTS,
+    KEPT_FAULTS,
+    BYTE_FAULTS,
+    LATCH_FAULTS,
+    TEST_FAULTS,
+    FORCE_FAULTS,
+    HELD_FAULTS,
+    MODE_FAULTS,
+];
+
+/// All of them with their numbers, from 1: the machine's, then the account's.
+fn faults() -> impl Iterator<Item = (usize, &'static Fault)> {
+    (1..).zip(MACHINE_FAULTS.into_iter().flatten().chain(ACCOUNT_FAULTS))
 }

@@ -18,5 +18,5 @@ pub fn turn_on(number: u32) {
 
 /// What each fault does, in order.
 pub fn names() -> impl Iterator<Item = &'static str> {
-    faults().map(|fault| fault.says)
+    faults().map(|(_, fault)| fault.says)
 }

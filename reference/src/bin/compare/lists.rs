@@ -7,6 +7,7 @@ use crate::numbers::*;
 use crate::profile::Profile;
 use crate::random::Random;
 use crate::setup;
+use crate::test_calls;
 use crate::ticks::tick;
 use crate::values::{blind_value, csr_value, number, place, value, word, HABITS};
 use reference::machine::{csr, Supervisor, MEMORY_WORDS};
@@ -76,8 +77,13 @@ impl Maker {
             self.set_up();
         }
         let is_stopped = record[0] & u64::from(csr::GO) == 0;
+        let in_mode = record[0] & u64::from(csr::MODES) != 0;
         let call = if self.random.once_in(16) {
             READ_STATE
+        } else if self.random.chance(self.profile.tests) {
+            self.queue(test_calls::calls, record)
+        } else if in_mode && self.profile.tests == 0 && self.random.once_in(3) {
+            [WRITE_REGISTER, 0, (csr::MODES << csr::CLEAR_SHIFT).into(), 0]
         } else if record[BLIND] > 0 && self.random.once_in(12) {
             self.while_blind()
         } else if is_stopped && self.random.chance(self.profile.restarts) {
@@ -113,9 +119,9 @@ impl Maker {
         [WRITE_REGISTER, 0, blind_value(random).into(), 0]
     }
 
-    /// A stretch of calls on one register; gives the first.
-    fn stretch(&mut self) -> Call {
-        let mut calls = byte_calls::stretch(&mut self.random).into_iter();
+    /// Several calls for a record that stands so; gives the first, the others come next.
+    fn queue(&mut self, make: fn(&mut Random, &Record) -> Vec<Call>, record: &Record) -> Call {
+        let mut calls = make(&mut self.random, record).into_iter();
         let first = calls.next().expect("it is never empty");
         self.queued.extend(calls.rev());
         first
@@ -146,7 +152,7 @@ impl Maker {
             }
             13 | 14 => [READ_MEMORY, place(random).into(), 0, 0],
             15..=21 => byte_calls::call(random),
-            22 if random.once_in(3) => self.stretch(),
+            22 if random.once_in(3) => self.queue(|random, _| byte_calls::stretch(random), record),
             _ if random.once_in(12) => [MAKE_FRESH, 0, 0, 0],
             _ => self.tick(record),
         }

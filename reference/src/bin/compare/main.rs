@@ -1,6 +1,7 @@
 //! Compares the proved library with the model: random lists of calls, every reply, the record after every call, and
 //! the memory. See docs/PERFORMANCE.md for what is covered.
 
+mod accounts;
 mod blind_counts;
 mod byte_calls;
 mod byte_counts;
@@ -12,6 +13,11 @@ mod faults;
 mod faulty {
     include!(concat!(env!("OUT_DIR"), "/faulty.rs"));
 }
+#[allow(dead_code, unused_parens)]
+mod faulty_account {
+    include!(concat!(env!("OUT_DIR"), "/faulty_account.rs"));
+}
+mod held_counts;
 mod lists;
 mod models;
 mod numbers;
@@ -22,6 +28,8 @@ mod random;
 mod scripts;
 mod setup;
 mod state_counts;
+mod test_calls;
+mod test_counts;
 mod ticks;
 mod values;
 
@@ -47,22 +55,22 @@ struct Difference {
 fn run_list<M: Machine>(seed: u64, counts: &mut Counts) -> Result<(), Difference> {
     let mut maker = Maker::new(seed);
     let memories = maker.memories();
-    let mut pair = Pair::new(&memories);
+    let mut pair = Pair::<M>::new(&memories);
     let mut steps = Vec::with_capacity(maker.length);
     let mut replies = Vec::with_capacity(maker.length);
+    counts.forget();
     for _ in 0..maker.length {
         let step = maker.step(&pair.proved);
         let (before, owed) = (pair.proved, owed_counts::owed(&pair));
         steps.push(step);
         let step = steps.last().expect("one was pushed");
-        match pair.step::<M>(step) {
+        match pair.step(step) {
             Err(says) => return Err(Difference { memories, steps, says }),
-            Ok(None) => {}
+            Ok(None) => counts.forget(),
             Ok(Some(reply)) => {
                 let Step::Call { call, .. } = *step else { continue };
-                counts.add(&before, call, &reply, &pair.proved);
+                counts.add(&before, call, &reply, &pair.proved, pair.account.is_some());
                 counts.owed.add(call, &reply, owed, &pair);
-                counts.accounts += u64::from(pair.account.is_some());
                 replies.push(reply);
             }
         }
@@ -95,8 +103,8 @@ fn run_list<M: Machine>(seed: u64, counts: &mut Counts) -> Result<(), Difference
 
 /// Whether these steps still show a difference, and which.
 fn differs<M: Machine>(memories: &[Vec<u16>], steps: &[Step]) -> Option<String> {
-    let mut pair = Pair::new(memories);
-    steps.iter().find_map(|step| pair.step::<M>(step).err())
+    let mut pair = Pair::<M>::new(memories);
+    steps.iter().find_map(|step| pair.step(step).err())
 }
 
 /// Leaves steps out as long as the difference stays.

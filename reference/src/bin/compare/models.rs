@@ -1,12 +1,12 @@
 //! The model, and its faulty copy, as machines that make calls on records of numbers.
 
-use crate::faulty;
 use crate::numbers::*;
-use reference::machine;
+use crate::{faulty, faulty_account};
+use reference::{account, machine};
 
 /// The model, and its faulty copy, in numbers.
 macro_rules! model {
-    ($name:ident, $machine:ident) => {
+    ($name:ident, $machine:ident, $account:ident) => {
         pub struct $name;
 
         impl $name {
@@ -61,6 +61,7 @@ macro_rules! model {
                     kept_lines: word(KEPT_LINES),
                     latched: n[LATCHED] & 1 == 1,
                     kept_acknowledges: word(KEPT_ACKNOWLEDGES),
+                    test: word(TEST),
                     branches: std::array::from_fn(branch),
                 }
             }
@@ -103,6 +104,7 @@ macro_rules! model {
                 n[KEPT_ACKNOWLEDGES] = s.kept_acknowledges.into();
                 n[LATCH] = s.latches[0].into();
                 n[LATCH + 1] = s.latches[1].into();
+                n[TEST] = s.test.into();
                 for (b, branch) in s.branches.iter().enumerate() {
                     n[BRANCH + 3 * b] = u64::from_le_bytes(branch.words);
                     n[BRANCH + 3 * b + 1] = branch.used.into();
@@ -137,6 +139,8 @@ macro_rules! model {
         }
 
         impl Machine for $name {
+            type Account = $account::Account;
+
             fn call(record: &mut Record, memory: &mut [u16], call: Call) -> Reply {
                 let [kind, a, b, c] = call;
                 let (first, count) = unpacked(c);
@@ -164,8 +168,8 @@ macro_rules! model {
     };
 }
 
-model!(Model, machine);
-model!(Faulty, faulty);
+model!(Model, machine, account);
+model!(Faulty, faulty, faulty_account);
 
 impl Model {
     /// The record for the account's check.

@@ -1,8 +1,11 @@
-//! The machines as the comparison sees them: records, calls and replies are numbers, laid out as in crates/numbers and crates/harness.
+//! The machines as the comparison sees them: records, calls and replies are numbers, laid out as in crates/numbers and
+//! crates/harness.
+
+use crate::accounts::Account;
 
 /// Registers 0–19, counters, main, sync count, user sync, three numbers for each branch, the blind count, what is kept
-/// of the latest tick, then the latches of the two scalers.
-pub const RECORD: usize = 56;
+/// of the latest tick, the latches of the two scalers, then what waits.
+pub const RECORD: usize = 57;
 pub const COUNTERS: usize = 20;
 pub const STATE: usize = 28;
 pub const AGE: usize = 29;
@@ -26,6 +29,8 @@ pub const LATCHED: usize = 52;
 pub const KEPT_ACKNOWLEDGES: usize = 53;
 /// Of scaler 0; that of scaler 1 follows. Words of 32 bits.
 pub const LATCH: usize = 54;
+/// What was written to TEST and waits, the single step as bit 7. A word of 32 bits.
+pub const TEST: usize = 56;
 
 pub const FIELDS: [&str; RECORD] = [
     "CSR",
@@ -84,6 +89,7 @@ pub const FIELDS: [&str; RECORD] = [
     "kept acknowledges",
     "latch 0",
     "latch 1",
+    "waiting TEST bits",
 ];
 
 pub type Record = [u64; RECORD];
@@ -125,8 +131,10 @@ pub fn unpacked(run: u64) -> (u32, u32) {
 /// 0 or the decline; value read; masks by two; accepted and lines out; outcome; finished; shown.
 pub type Reply = [u64; 8];
 
-/// A machine that makes calls on records of numbers.
+/// A machine that makes calls on records of numbers, and the account that is kept beside it.
 pub trait Machine {
+    type Account: Account;
+
     fn call(record: &mut Record, memory: &mut [u16], call: Call) -> Reply;
 }
 

@@ -1,5 +1,6 @@
 //! What the compared calls met of the pass counts that are owed and of those that are not. [Bytes.10a] [Bytes.10b]
 
+use crate::accounts::Account;
 use crate::numbers::*;
 use crate::pair::Pair;
 use reference::account::INPUTS;
@@ -19,8 +20,8 @@ const EVENTS: [&str; 8] = [
 pub type Owed = ([bool; INPUTS], [u32; INPUTS]);
 
 /// From the account, where one is kept.
-pub fn owed(pair: &Pair) -> Option<Owed> {
-    pair.account.as_ref().map(|account| (account.owed, account.factors))
+pub fn owed<M: Machine>(pair: &Pair<M>) -> Option<Owed> {
+    pair.account.as_ref().map(|account| (account.owed(), account.factors()))
 }
 
 pub struct OwedCounts {
@@ -35,7 +36,7 @@ impl OwedCounts {
     }
 
     /// A call that both machines answered alike, and what was owed before it. Declined ones tell nothing here.
-    pub fn add(&mut self, call: Call, reply: &Reply, before: Option<Owed>, pair: &Pair) {
+    pub fn add<M: Machine>(&mut self, call: Call, reply: &Reply, before: Option<Owed>, pair: &Pair<M>) {
         let (Some(before), Some(after), 0) = (before, owed(pair), reply[0]) else { return };
         match call[0] {
             WRITE_REGISTER | WRITE_BYTES if (2..=9).contains(&call[1]) => self.add_factor(call, before, after),
@@ -74,7 +75,7 @@ impl OwedCounts {
 }
 
 /// Some pass count that is not owed is other than n div (F + 1).
-fn is_other(pair: &Pair) -> bool {
+fn is_other<M: Machine>(pair: &Pair<M>) -> bool {
     let Some(account) = &pair.account else { return false };
-    (0..8).any(|i| !account.owed[i] && !account.inputs[i].is_settled(account.factors[i]))
+    (0..8).any(|i| !account.owed()[i] && !account.is_settled(i))
 }

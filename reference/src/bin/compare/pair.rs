@@ -1,36 +1,36 @@
 //! The two machines beside each other, and where they differ after a call.
 
+use crate::accounts::Account;
 use crate::lists::Step;
 use crate::models::{answer_of, Model};
 use crate::numbers::*;
-use reference::account::Account;
 
-/// The two machines beside each other.
-pub struct Pair {
+/// The two machines beside each other, with the account that goes with the second.
+pub struct Pair<M: Machine> {
     pub proved: Record,
     model: Record,
     pub memories: Vec<Vec<u16>>,
     model_memories: Vec<Vec<u16>>,
     /// From fresh, as long as only calls change the record.
-    pub account: Option<Account>,
+    pub account: Option<M::Account>,
     /// A factor write without BYTE(3) was carried out in the account's time.
     lacking: bool,
 }
 
-impl Pair {
-    pub fn new(memories: &[Vec<u16>]) -> Pair {
+impl<M: Machine> Pair<M> {
+    pub fn new(memories: &[Vec<u16>]) -> Pair<M> {
         Pair {
             proved: FRESH,
             model: FRESH,
             memories: memories.to_vec(),
             model_memories: memories.to_vec(),
-            account: Some(Account::new()),
+            account: Some(M::Account::new()),
             lacking: false,
         }
     }
 
     /// One step on both; says where they differ.
-    pub fn step<M: Machine>(&mut self, step: &Step) -> Result<Option<Reply>, String> {
+    pub fn step(&mut self, step: &Step) -> Result<Option<Reply>, String> {
         let (memory, call) = match step {
             Step::Put(record) => {
                 self.proved = **record;
@@ -70,18 +70,18 @@ impl Pair {
         let Some(account) = &mut self.account else { return Ok(()) };
         let done = if reply[0] == 0 { Ok(()) } else { Err(reply[0] as u8) };
         match call[0] {
-            WRITE_REGISTER => account.write_register(call[1] as u32, call[2] as u32, done),
+            WRITE_REGISTER => account.write_bytes(call[1] as u32, (0, 4), call[2] as u32, done),
             WRITE_BYTES => {
                 let (first, count) = unpacked(call[3]);
-                account.write_bytes(call[1] as u32, first, count, call[2] as u32, done);
+                account.write_bytes(call[1] as u32, (first, count), call[2] as u32, done);
                 self.lacking |= reply[0] == 0 && (2..=9).contains(&call[1]) && first + count < 4;
             }
             TICK => account.tick(call[1] as u32, call[2] as u32, &answer_of(reply)),
-            MAKE_FRESH => (*account, self.lacking) = (Account::new(), false),
+            MAKE_FRESH => (*account, self.lacking) = (M::Account::new(), false),
             _ => {}
         }
         // [Bytes.10a]
-        if !self.lacking && account.owed.contains(&false) {
+        if !self.lacking && account.owed().contains(&false) {
             return Err("the account: a pass count is not owed, and every factor write had BYTE(3)".into());
         }
         account.check(&Model::of(&self.proved)).map_err(|says| format!("the account: {says}"))

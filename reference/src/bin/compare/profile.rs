@@ -14,6 +14,20 @@ pub enum Acknowledges {
     Partly(u32),
 }
 
+impl Acknowledges {
+    fn new(random: &mut Random) -> Acknowledges {
+        match random.below(8) {
+            0 => Acknowledges::None,
+            1 => Acknowledges::All,
+            2 => Acknowledges::Random,
+            3 => Acknowledges::Partly(1 << random.below(4)),
+            4 => Acknowledges::Willing(20),
+            5 => Acknowledges::Willing(90),
+            _ => Acknowledges::Willing(250),
+        }
+    }
+}
+
 /// Chances in 256 and habits, drawn once for a list.
 pub struct Profile {
     pub pulses: u32,
@@ -34,6 +48,8 @@ pub struct Profile {
     pub lengths: u32,
     /// GO is set again where it is clear.
     pub restarts: u32,
+    /// Calls that have to do with the modes and with TEST; with 0 a mode goes off soon.
+    pub tests: u32,
 }
 
 impl Profile {
@@ -52,15 +68,8 @@ impl Profile {
         let changes = some(&[0, 0, 0, 60, 110]);
         let lengths = some(&[0, 0, 0, 4, 12]);
         let restarts = some(&[10, 60, 120]);
-        let acknowledges = match random.below(8) {
-            0 => Acknowledges::None,
-            1 => Acknowledges::All,
-            2 => Acknowledges::Random,
-            3 => Acknowledges::Partly(1 << random.below(4)),
-            4 => Acknowledges::Willing(20),
-            5 => Acknowledges::Willing(90),
-            _ => Acknowledges::Willing(250),
-        };
+        let tests = some(&[0, 0, 0, 0, 0, 24, 110]);
+        let acknowledges = Acknowledges::new(random);
         Profile {
             pulses,
             inputs,
@@ -76,6 +85,7 @@ impl Profile {
             changes,
             lengths,
             restarts,
+            tests,
         }
     }
 }

@@ -1,14 +1,14 @@
 //! Random values for the calls of a list: register numbers and values, places and words of the memory.
 
 use crate::random::Random;
-use reference::machine::{csr, MEMORY_WORDS};
+use reference::machine::{csr, test, MEMORY_WORDS};
 
 /// A register's number, mostly one that exists.
 pub fn number(random: &mut Random) -> u32 {
     if random.once_in(25) {
-        random.pick(&[21, 22, 31, 32, 255, 256, u32::MAX])
+        random.pick(&[22, 23, 31, 32, 255, 256, u32::MAX])
     } else {
-        random.below(21)
+        random.below(22)
     }
 }
 
@@ -37,6 +37,7 @@ pub fn value(random: &mut Random, number: u32) -> u32 {
         16 => random.pick(&[0, 1, 2, 3, 0xFF, 0x100, 0xFFFF]),
         19 if random.once_in(3) => random.pick(&[0x40, 0x4F, 0x60, 0x7F, 0x80, 0x100]),
         19 => listed(random),
+        21 => test_value(random),
         _ => random.next(),
     }
 }
@@ -54,13 +55,31 @@ pub fn csr_value(random: &mut Random) -> u32 {
         10 => csr::RESET | random.next() & 0x0FFF_0FFF,
         11 => csr::RESET,
         12 => csr::CLEAR_STATUS | random.next() & 0x0FFF,
-        13 => csr::INITIALIZE | if random.once_in(2) { random.next() & 0x8FFF_4FFF } else { 0 },
+        13 => csr::INITIALIZE | if random.once_in(2) { random.next() & 0xBFFF_7FFF } else { 0 },
         14 => 1 << random.below(32),
         15 => (1 << random.below(12)) << 16,
         16 => csr::GO | csr::GO << 16,
         17 => random.next() & 0x8FFF_0FFF,
         18 => random.next() & 0x0000_0FFF & !csr::PAUSE_AND_SYNC,
         _ => random.next(),
+    }
+}
+
+/// A value for TEST: what a test goes through, one bit, or any bits; seldom a bad one.
+pub fn test_value(random: &mut Random) -> u32 {
+    let any = random.next();
+    match random.below(12) {
+        0 | 1 => test::LEVEL_1_PASS,
+        2 => test::LEVEL_1_PASS | any & 0x7F3C & random.next(),
+        3 => test::LEVEL_2_PASS | test::LEVEL_3_PASS,
+        4 => any & 0x3C,
+        5 => test::ENABLE_ACKNOWLEDGES | any & 0x3C00,
+        6 => test::ENABLE_ACKNOWLEDGES | random.pick(&[0, 0x3C00]),
+        7 => test::SINGLE_STEP | any & 0x7D & !0x42,
+        8 => 1 << random.below(32),
+        9 => any & random.next() & test::BITS,
+        10 => 1 << random.below(32) | any & random.next() & test::BITS,
+        _ => any & test::BITS,
     }
 }
 
