@@ -3,7 +3,7 @@ import re
 
 import names
 from names import bits
-from states import is_wanted
+from standing import is_wanted
 
 
 def value_fault(register, value):
@@ -24,7 +24,7 @@ def spans(mask):
 
 def why_active(standing):
     """[Active.1]"""
-    held = [f"branch {b} holds {n} word" + "s" * (n > 1) for b, n in enumerate(standing.held, start=1) if n]
+    held = [f"branch {b} holds {n} word" + "s" * (n > 1) for b, n in enumerate(standing.queued, start=1) if n]
     why = [
         *(["GO is set"] if standing.csr & names.GO else []),
         *([f"main is at {standing.state}"] if standing.state != "Idle" else []),
@@ -35,15 +35,25 @@ def why_active(standing):
     return ", ".join(why) or "a branch is not at Rest"
 
 
+def active_rule(line):
+    """Which registers are not written while active; control is in test mode. [Declines.2c] [Test.2]"""
+    if line.kind != "W":
+        return ""
+    tested = bool(line.before.csr & names.TEST_MODE)
+    control = "; in test mode 01 is" if tested or line.fields[0] == names.CONTROL else ""
+    return f" (registers {'02' if tested else '01'}–10 are not written then{control})"
+
+
 def decline_words(line):
     """The reason of a decline of this line."""
     why = names.DECLINES[line.declined]
-    if line.declined == 3 and line.kind == "W" and line.fields[0] == names.STATE:
+    if line.declined == 3 and line.fields[0] == names.STATE:
         return "STATE is read only"
+    if line.declined == 3 and line.fields[0] == names.TEST:
+        return "TEST is write only"
     if line.declined == 4:
-        status = names.ACTIVE_SETS[line.kind]
-        rule = " (registers 01–10 are not written then)" if line.kind == "W" else ""
-        return f"{why}: {why_active(line.before)}{rule}; status {status} ({names.CSR_BITS[status]}) is set"
+        status, active = names.ACTIVE_SETS[line.kind], f"{why}: {why_active(line.before)}{active_rule(line)}"
+        return f"{active}; status {status} ({names.CSR_BITS[status]}) is set"
     if line.declined == 5 and line.kind == "W":
         return value_fault(*line.fields)
     if line.declined == 5:

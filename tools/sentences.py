@@ -3,7 +3,7 @@ import names
 import session
 from declines import decline_words, form_faults
 from names import bits
-from states import unready
+from standing import unready
 
 
 def listed(items, none="nothing"):
@@ -51,6 +51,10 @@ def csr_write(value):
     return "CSR: " + ("; ".join(parts) or "nothing set or cleared")
 
 
+def test_names(value):
+    return listed(names.TEST_BITS[bit] for bit in bits(value))
+
+
 def control_words(value):
     parts = [
         inputs(value >> 1 & 0xFFF) + " enabled",
@@ -91,13 +95,15 @@ def value_words(register, value):
 
 
 def write_words(register, value):
-    if register >= len(names.TAKEN):
+    if register >= len(names.TAKEN) or names.TAKEN[register] is None:
         return f"write of register {register:02X}"
     name = names.REGISTERS[register]
     if value & ~names.TAKEN[register] or register == names.ASSIGN and names.assigned(value) is None:
         return f"{name} := {value:X}"
     if register == names.CSR:
         return csr_write(value)
+    if register == names.TEST:
+        return f"{name}: {test_names(value)}"
     if register in names.SCALERS:
         return f"{name} := 0, whatever the value"
     return f"{name} := {value_words(register, value)}"
@@ -132,13 +138,47 @@ def place_words(place):
 
 # ---- ticks
 
-def asked_words(tick):
-    parts = [
-        *([f"pulse on {inputs(tick.triggers)}"] if tick.triggers else []),
-        *(names.LINES_IN[bit] for bit in bits(tick.lines)),
-        *(["acknowledges of " + controllers(tick.acknowledges)] if tick.acknowledges else []),
+def pulse_parts(tick):
+    pulses = [f"pulse on {inputs(tick.triggers)}"] if tick.triggers else []
+    return pulses + [names.LINES_IN[bit] for bit in bits(tick.lines)]
+
+
+def acknowledge_parts(tick):
+    return ["acknowledges of " + controllers(tick.acknowledges)] if tick.acknowledges else []
+
+
+def written_parts(line):
+    """What was written and acts in a tick of test mode. [Test.3] [Test.4]"""
+    branches = [str(b) for b, bit in zip(names.BRANCHES, names.TEST_BRANCHES) if line.written >> bit & 1]
+    none = ["pulse on no input"] if line.written & names.PULSE and not line.met.triggers else []
+    acknowledges = f"all acknowledges of branch {', '.join(branches)}" if branches else "all acknowledges low"
+    return none + pulse_parts(line.met) + ([acknowledges] if line.written & names.TEST_ACKNOWLEDGES else [])
+
+
+def tested_words(line):
+    """What a tick of test mode meets: what was written, what acts from outside, what is blocked. [Test.2] [Test.4]"""
+    outside = [] if line.written & names.TEST_ACKNOWLEDGES else acknowledge_parts(line.tick)
+    blocked = pulse_parts(line.blocked) + acknowledge_parts(line.blocked)
+    if line.is_held:
+        given = ["In: " + listed(outside)]
+    else:
+        given = ["Written: " + listed(written_parts(line)), *("from outside: " + words for words in outside)]
+    return "; ".join(given + (["blocked: " + listed(blocked)] if blocked else []))
+
+
+def asked_words(line):
+    if line.is_tested:
+        return tested_words(line)
+    return "In: " + listed(pulse_parts(line.tick) + acknowledge_parts(line.tick))
+
+
+def tick_words(line):
+    """The tick's number and time, and what marks it. [Test.7a] [Test.8a]"""
+    marks = [
+        *(["held"] if line.is_held else ["single step"] if line.before.csr & names.HOLD else []),
+        *(["in test mode"] if line.is_tested else []),
     ]
-    return listed(parts)
+    return ", ".join([f"tick {line.tick.number}", f"{line.tick.start} ns", *marks])
 
 
 def by_branch(label, numbers):
@@ -155,9 +195,10 @@ def outcome_words(outcome):
 
 
 def mask_words(line, mask):
-    """A mask's inputs; for lost pulses with the reason. [Ready.1] [Blind.2]"""
+    """A mask's inputs; for lost pulses and those that a held tick stops with the reason. [Ready.1] [Blind.2] [Test.7a]"""
     pulses = line.tick.masks[mask]
-    why = f" ({', '.join(unready(line.before, line.tick.lines))})" if mask == "lost" else ""
+    why = f" ({', '.join(unready(line.before, line.met.lines))})" if mask == "lost" else ""
+    why = " (the clock is held)" if mask == "stopped" and line.is_held else why
     return [f"{mask} {inputs(pulses)}{why}"] if pulses else []
 
 
@@ -179,10 +220,29 @@ def answered_words(line):
 BLIND = ["no longer blind", "blind in the next tick", "blind in the next two ticks"]
 
 
+def test_changes(line):
+    """What waits of TEST, and what is dropped of it. [Test.6] [Test.8a] [Test.8b]"""
+    before, after = line.before.test, line.after.test
+    if line.is_held and before:
+        yield "waiting: " + test_names(before)
+    if line.tick and not line.is_held and not line.is_tested and before & ~names.STEP:
+        yield f"dropped, as test mode is off: {test_names(before & ~names.STEP)}"
+    if line.tick and before & names.STEP and not line.before.csr & names.HOLD:
+        yield "the single step is used up, though the clock is not held"
+    if not line.tick and before & ~after:
+        yield "dropped: " + test_names(before & ~after)
+    if line.fields[0] == names.TEST and line.kind == "W":
+        if line.fields[1] & names.STEP and not line.before.csr & names.HOLD:
+            yield "the single step is not kept: the clock is not held"
+        if before:
+            yield "waiting: " + test_names(after)
+
+
 def changes(line):
     """What the call changed besides what it asks or answers: main's state, the user sync's wait, the blind count, CSR bits
-    0–11."""
+    0–13, what waits of TEST."""
     before, after = line.before, line.after
+    yield from test_changes(line)
     if before.state != after.state:
         yield f"main: {before.state} → {after.state}"
     if before.waits != after.waits:
@@ -218,6 +278,4 @@ def line_words(line):
         return [f"declined: {call_words(line)}", f"because {decline_words(line)}"]
     if not line.tick:
         return [call_words(line), *changes(line)]
-    tick = line.tick
-    given = f"tick {tick.number}, {tick.start} ns. In: {asked_words(tick)}"
-    return [given, f"Out: {answered_words(line)}", *changes(line)]
+    return [f"{tick_words(line)}. {asked_words(line)}", f"Out: {answered_words(line)}", *changes(line)]

@@ -7,8 +7,10 @@ import sys
 import typing
 
 import names
+import test_mode
 from page import TOP
-from states import Follower, Misfit, Standing
+from standing import Standing
+from states import Follower, Misfit
 
 
 @dataclasses.dataclass(frozen=True)
@@ -21,7 +23,7 @@ class Outcome:
 
 @dataclasses.dataclass(frozen=True)
 class Tick:
-    """A tick carried out: what it was given and what it answered."""
+    """A tick carried out: what it was given from outside and what it answered."""
 
     number: int
     triggers: int
@@ -59,6 +61,31 @@ class Line:
     tick: typing.Optional[Tick]
     before: Standing
     after: Standing
+
+    @property
+    def is_held(self):
+        """A tick that does not run. [Test.7a]"""
+        return self.tick is not None and test_mode.is_held(self.before)
+
+    @property
+    def is_tested(self):
+        """A tick in test mode, held or not. [Test.2]"""
+        return self.tick is not None and test_mode.is_tested(self.before)
+
+    @property
+    def met(self):
+        """The tick with the triggers, lines and acknowledges in force in it. [Test.2]"""
+        return test_mode.in_force(self.before, self.tick)
+
+    @property
+    def blocked(self):
+        """The tick with those from outside that test mode blocks. [Test.2]"""
+        return test_mode.blocked(self.before, self.tick)
+
+    @property
+    def written(self):
+        """The bits of TEST that act in the tick. [Test.6]"""
+        return test_mode.acting(self.before)
 
 
 @dataclasses.dataclass(frozen=True)

@@ -1,10 +1,10 @@
-"""Follows main's state, c, the user sync's wait, the blind count, the branches, CSR bits 0–11, T5, ROC enable and the latest
-tick from a script's calls and answers alone. Each is what the call leaves. What does not fit documents 01 and 02 is a
-Misfit, never a guess."""
-import typing
-
+"""Follows main's state, c, the user sync's wait, the blind count, the branches, CSR bits 0–13, control, T5, ROC enable,
+what waits of TEST and the latest tick that ran from a script's calls and answers alone. Each is what the call leaves.
+What does not fit documents 01 and 02 is a Misfit, never a guess."""
 import names
+import test_mode
 from names import ACCEPT2, ACCEPT3, CLEAR, FAIL2, FAIL3, OK, PASS2, PASS3, START2, START3
+from standing import Standing, is_wanted, unready
 
 RAISED = OK | START2 | ACCEPT2 | START3 | ACCEPT3
 
@@ -77,47 +77,19 @@ def state_after(state, tick):
     return state if tick.out & OK else "Idle"
 
 
-def is_wanted(csr):
-    """A user sync is wanted: bit 2 or 3, with bit 4. [Ready.1]"""
-    return bool(csr & (names.PAUSE_AND_SYNC | names.FORCE_SYNC) and csr & names.ENABLE_SYNC)
-
-
-class Standing(typing.NamedTuple):
-    """What is followed, between two calls: main's state, whether a user sync waits, the blind count, CSR bits 0–11, the
-    words that each branch holds."""
-
-    state: str
-    waits: bool
-    blind: int
-    csr: int
-    held: typing.Tuple[int, ...]
-
-
-def unready(standing, lines):
-    """Why passed pulses are lost in a tick with these lines; nothing for a ready unit. [Ready.1] [Blind.2]"""
-    inhibited = lines & names.INHIBIT and not standing.csr & names.OVERRIDE
-    return [
-        *(["GO is clear"] if not standing.csr & names.GO else []),
-        *([f"main is at {standing.state}"] if standing.state != "Idle" else []),
-        *(["a user sync waits"] if standing.waits else ["a user sync is wanted"] if is_wanted(standing.csr) else []),
-        *(["front busy is high"] if lines & names.BUSY else []),
-        *(["inhibit is high"] if inhibited else []),
-        *(["blind after a rejected pattern"] if standing.blind else []),
-    ]
-
-
 class Follower:
     def __init__(self):
         self.fresh()
 
     def fresh(self):
-        self.csr, self.t5, self.roc = 0, 0, 0
-        # of the latest tick: its lines, its acknowledges, whether it latched a pattern [State.3]
+        self.csr, self.control, self.t5, self.roc = 0, 0, 0, 0
+        # of the latest tick that ran: lines and acknowledges in force, whether it latched a pattern [State.3] [Test.7b]
         self.lines, self.acknowledges, self.latched = 0, 0, False
         self.idle()
 
     def idle(self):
-        """All sequencers at Idle, no word held and not blind, as RESET leaves them. [CSRWrite.2d] [Blind.3]"""
+        """All at Idle, no word held, not blind, nothing waiting, as after RESET. [CSRWrite.2d] [Blind.3] [Test.8b]"""
+        self.test = 0
         self.state, self.out, self.late, self.clear, self.waits, self.blind = "Idle", 0, False, 0, False, 0
         self.queues = [[], [], [], []]
         self.strobes, self.drops = [False] * 4, [False] * 4
@@ -125,7 +97,11 @@ class Follower:
     # ---- calls other than ticks
 
     def wrote(self, register, value):
-        """A register write that was carried out. [CSRWrite.1] [CSRWrite.2a] [CSRWrite.2d]"""
+        """A register write that was carried out. [CSRWrite.1] [CSRWrite.2a] [CSRWrite.2d] [Test.8b] [Test.10]"""
+        if register == names.CONTROL:
+            self.control = value
+        if register == names.TEST:
+            self.test = test_mode.waiting(self.test, self.csr, value)
         if register == names.T5:
             self.t5 = value
         if register == names.ROC:
@@ -164,15 +140,43 @@ class Follower:
         return bits
 
     def high(self, b):
-        """The latest tick's acknowledges of the controllers enabled now on the branch at place b."""
+        """Of the latest tick that ran: the acknowledges of the controllers enabled now on the branch at place b."""
         return (self.acknowledges & self.roc) >> 8 * b & 0xFF
 
     def standing(self):
-        return Standing(self.state, self.waits, self.blind, self.csr, tuple(len(queue) for queue in self.queues))
+        queued = tuple(len(queue) for queue in self.queues)
+        return Standing(self.state, self.waits, self.blind, self.csr, queued, self.control, self.test)
 
     # ---- ticks
 
     def ticked(self, tick):
+        """A tick carried out, as it was given from outside. [Test.2] [Test.7a]"""
+        standing = self.standing()
+        self.check_counted(standing, tick)
+        if test_mode.is_held(standing):
+            self.check_held(tick)
+        else:
+            self.test = 0
+            self.ran(test_mode.in_force(standing, tick))
+
+    def check_counted(self, standing, tick):
+        """Each counted pulse is in one mask. [Account.11] [Test.9]"""
+        pulses = [place for mask in tick.masks.values() for place in names.bits(mask)]
+        counted = test_mode.counted(standing, tick)
+        fit(sorted(pulses) == names.bits(counted), f"the pulses that count are {counted:03X}, each of them in one mask")
+
+    def check_held(self, tick):
+        """Pulses are stopped; lines out and shown words are as they stand, and nothing else is there. [Test.7a]"""
+        fit(sum(tick.masks.values()) == tick.masks["stopped"], "held, but not every pulse is stopped")
+        fit(tick.outcome.kind == "none", f"held, but the outcome is {tick.outcome.kind}")
+        fit(not any(word is not None for word in tick.finished), "held, but a branch finished a word")
+        out = self.out & ~names.LEVEL1 | (names.LEVEL1 if self.csr & names.HARDWARE else 0)
+        fit(tick.out == out, f"held: the lines out should stay {out:04X}")
+        shown = [queue[0] if strobe else None for queue, strobe in zip(self.queues, self.strobes)]
+        fit(tick.shown == shown, "held, but the shown words are not as they stand")
+
+    def ran(self, tick):
+        """A tick that runs, with what is in force in it."""
         empty = not any(self.queues)
         self.lines, self.acknowledges = tick.lines, tick.acknowledges
         self.latched = bool(tick.masks["accepted"] | tick.masks["rejected"])

@@ -14,21 +14,12 @@ from page import TOP
 from sentences import line_words
 from tests_commands import Checks, Console, Edits, Requests, Setters, Tags, Words, tool  # noqa: F401  run here too
 from tests_drawings import Diagrams, Timing, Wave  # noqa: F401
-
-TICK = "T 000 00 00000000"
-FIRST = ["M 001 0153", "W 01 00000002", "W 00 00000001", "T 001 00 00000000", TICK, TICK, TICK, TICK]
-
-
-def run(*lines):
-    """The session of a script whose lines are given with spaces for tabs."""
-    return session.run("\n".join(["supervisor\t1", *(line.replace(" ", "\t") for line in lines)]).encode("latin-1"))
+from tests_modes import Followed, Modes  # noqa: F401
+from tests_run import FIRST, TICK, Scripts, run
 
 
-class Calls(unittest.TestCase):
+class Calls(Scripts):
     """A call's words, alone on a fresh record or after the calls before it."""
-
-    def says(self, words, *lines):
-        self.assertEqual("; ".join(line_words(run(*lines).lines[-1])), words, lines)
 
     def test_csr_write(self):
         self.says("CSR: set GO, use T1", "W 00 00000041")
@@ -113,17 +104,12 @@ class Calls(unittest.TestCase):
         self.assertEqual(said[6][1:], ["no longer blind"])
 
 
-class Declines(unittest.TestCase):
-    def because(self, number, words, *lines):
-        line = run(*lines).lines[-1]
-        self.assertEqual(line.answer, f"no {number}")
-        self.assertEqual(line_words(line)[-1], words)
-
+class Declines(Scripts):
     def test_declines(self):
         active = "because the record is active: GO is set"
         self.because(3, "because STATE is read only", "W 14 00000000")
-        self.because(3, "because no such register: 14 is the last", "W 15 00000000")
-        self.because(3, "because no such register: 14 is the last", "R FF")
+        self.because(3, "because no such register: 15 is the last", "W 16 00000000")
+        self.because(3, "because no such register: 15 is the last", "R FF")
         self.because(4, active + " (registers 01–10 are not written then); status 19 (write error) is set",
                      "W 00 00000001", "W 0C 00000003")
         self.because(4, active + "; status 19 (write error) is set", "W 00 00000001", "M 001 0153")
@@ -138,7 +124,9 @@ class Declines(unittest.TestCase):
         self.because(4, "because the record is active: a branch is not at Rest; status 20 (read error) is set",
                      *FIRST, "W 00 00010000", "V 001")
         self.because(5, "because bit 14 of the value is not taken: factor of input 8 takes bits 0–13", "W 09 00004000")
-        self.because(5, "because bits 12, 30 of the value are not taken: CSR takes bits 0–11, 14–27, 31", "W 00 40001000")
+        self.because(5, "because bit 30 of the value is not taken: CSR takes bits 0–29, 31", "W 00 40001000")
+        self.because(5, "because bits 13, 16 of the value are not taken: trigger control takes bits 0–12, 15",
+                     "W 01 00012000")
         self.because(5, "because code 40 is not listed: 00–3F and 50–5F are", "W 13 00000040")
         self.because(5, "because the lines in are over 7F: bit 7 is no line", "T 001 80 00000000")
 
@@ -188,7 +176,7 @@ class Refusals(unittest.TestCase):
         self.refused(longest + b"\n", "the script has 65,537 bytes; 65,536 is the most")
 
 
-class States(unittest.TestCase):
+class States(Scripts):
     EXAMPLES = {
         "first": "Delay Front Space Idle*2",
         "class3": "Wait2*2 Wait3*2 Front Space Idle*6",
@@ -197,7 +185,9 @@ class States(unittest.TestCase):
         "rejected": "Idle*3 Delay Front Space Idle*2",
         "prescaled": "Idle*2 Delay Front Space Idle*5 Delay Front Space Idle*3",
         "scheduled_sync": "Delay Front Space Idle*3 Delay Front Synchold*3 Idle Delay Front Space Idle*3",
+        "single_step": "Idle Delay*2 Front Space Idle*3 Delay",
         "state": "Delay Front Synchold*6 Idle*2 Delay",
+        "test_pulses": "Idle Wait2*2 Delay Front Space Idle*6",
         "user_sync": "Delay Front Space Idle*9 Delay",
     }
 
@@ -211,15 +201,6 @@ class States(unittest.TestCase):
     def test_user_sync_waits(self):
         ticks = session.run((TOP / "examples" / "user_sync.txt").read_bytes()).ticks
         self.assertEqual([line.tick.number for line in ticks if line.after.waits], [7, 8, 9])
-
-    def misfits(self, script, answers, number, old, new):
-        """The answer of a line put to another one is refused, with the number of a line from there on."""
-        wrong = list(answers)
-        wrong[number - 2] = wrong[number - 2].replace(old, new)
-        self.assertNotEqual(wrong, answers)
-        with self.assertRaises(session.Misfit) as caught:
-            session.run(script, wrong)
-        self.assertGreaterEqual(int(str(caught.exception).split(":")[0].split()[1]), number)
 
     def test_wrong_lines_out(self):
         """Each line out, wrong in any one tick of an example but the last two, does not fit."""

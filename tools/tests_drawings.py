@@ -100,6 +100,9 @@ class Wave(unittest.TestCase):
             self.assertEqual(names.STATES[number(values, "main.state_number")], line.after.state)
             self.assertEqual(values["main.user_sync_waits"], str(int(line.after.waits)))
             self.assertEqual(values["main.blind"], format(line.after.blind, "02b"))
+            modes = number(values, "main.hold") << 12 | number(values, "main.test_mode") << 13
+            self.assertEqual((modes, number(values, "main.written")), (line.before.csr & 0x3000, line.before.test))
+            self.assertEqual(values["main.held"], str(int(modes & 0x1000 != 0 and not line.before.test & 0x80)))
             for name, (kind, width) in wave.signals.items():
                 self.assertTrue(kind == "string" or len(values[name]) == width, name)
 
@@ -121,6 +124,19 @@ class Wave(unittest.TestCase):
             self.compare(script, wave)
             declined = [number(values, "inputs.declined_ticks") for _, values in wave.moments]
             self.assertEqual(declined, [0, 0] + [2] * 48 + [3])
+
+    def test_modes(self):
+        """Held and stepped ticks, in test mode and not, with what waits; inputs are as given from outside."""
+        with tempfile.TemporaryDirectory() as folder:
+            script = pathlib.Path(folder) / "script.txt"
+            calls = ["M 001 0153", "W 01 00000002", "W 00 00001001", "T 001 23 0000FF00", "W 15 00000081",
+                     "T 001 00 00000000", "W 00 00002000", "W 15 00007F3D", "T 001 7F 12345678", "W 15 00000080",
+                     "T 001 7F 12345678", "W 00 10000000", "T FFF 00 00000001"]
+            script.write_text("\n".join(["supervisor\t1", *(call.replace(" ", "\t") for call in calls)]))
+            wave = self.wave(script)
+            self.compare(script, wave)
+            self.assertEqual([values["main.held"] for _, values in wave.moments[:-1]], ["1", "0", "1", "0", "0"])
+            self.assertEqual(number(wave.moments[3][1], "main.written"), 0x7FBD)
 
     def test_default_name_and_refusal(self):
         with tempfile.TemporaryDirectory() as folder:
@@ -150,6 +166,24 @@ class Timing(unittest.TestCase):
     def test_page(self):
         self.assertEqual(tool("timing.py", "--check").stdout, "docs/TIMING.md is true\n")
         self.assertLessEqual(max(map(len, read(TOP / "docs" / "TIMING.md").splitlines())), 130)
+
+    def high(self, name, label):
+        """The ticks in which a wave of an example's drawing is high; none where the drawing has no such wave."""
+        drawing = read(TOP / "docs" / "TIMING.md").split(f"`examples/{name}.txt`")[1].split("```")[1]
+        cells = [row[17:].split() for row in drawing.splitlines() if row[:16].strip() == label]
+        return [tick for tick, cell in enumerate(cells[0], start=1) if "▔" in cell] if cells else []
+
+    def test_modes(self):
+        """Held ticks are marked; what is drawn in a tick of test mode is what is in force in it."""
+        self.assertEqual(self.high("single_step", "held"), [1, 3, 8])
+        self.assertEqual(self.high("single_step", "stopped"), [1, 3])
+        self.assertEqual(self.high("test_pulses", "test mode"), [*range(1, 11), 12])
+        self.assertEqual(self.high("test_pulses", "test pulse"), [2, 4, 8, 9, 10])
+        self.assertEqual(self.high("test_pulses", "blocked"), [1, 3, 9])
+        self.assertEqual(self.high("test_pulses", "trigger"), [2, 10])
+        self.assertEqual(self.high("test_pulses", "level 2 pass"), [4])
+        self.assertEqual(self.high("test_pulses", "acknowledge"), [8])
+        self.assertEqual(self.high("first", "held") + self.high("first", "test mode"), [])
 
 
 class Diagrams(unittest.TestCase):

@@ -32,6 +32,13 @@ SCRIPTS = [
     ("user_sync", "A user sync",
      "The tag is loaded while main is Idle. When every branch is empty the wait ends, and pause and sync is cleared with GO: "
      "the next pulse is stopped."),
+    ("test_pulses", "Test pulses",
+     "Test mode blocks the pulse and the level 2 pass from outside; what is written to TEST acts in the next tick: "
+     "acknowledges too, which are low in tick 9, though one is high outside. Two writes act together in tick 10. The "
+     "last pulse is dropped, as test mode is off in tick 11: in tick 12, in test mode again, there is none."),
+    ("single_step", "A held clock and single steps",
+     "A held tick stops its pulse and changes nothing: lines out and shown words stay, and STATE shows the tick before "
+     "it. Each single step lets one tick run. RESET keeps hold, which is cleared before tick 9."),
 ]
 HEAD = """# Timing
 
@@ -39,6 +46,10 @@ Made by `tools/timing.py` from what the console prints for the scripts named. A 
 which it starts. A line in and a mask are those of the tick; a line out, a shown word and main's state are as the tick leaves
 them. Main's state is followed from the calls and the answers; Hold is Sync hold. Calls other than ticks take no time and stand
 under the drawing. `tools/wave SCRIPT` writes the same as a file for GTKWave, `tools/explain SCRIPT` says it in words.
+
+Held marks a tick that leaves all as it is, since the clock is held. In a tick of test mode the trigger, the lines in
+and the acknowledge are those in force: test pulse is high where bits written to TEST act, blocked where something that
+comes from outside does not. The file of `tools/wave` has all that comes from outside, and the bits written beside it.
 """
 COLUMNS = 125
 SHORT = {"Sync hold": "Hold"}
@@ -69,10 +80,23 @@ def outcome(tick):
     return marks[tick.outcome.kind] + ("" if tick.outcome.number is None else word(tick.outcome.number))
 
 
+def is_blocked(line):
+    return any((line.blocked.triggers, line.blocked.lines, line.blocked.acknowledges))
+
+
+def modes(lines):
+    """A wave for held ticks, for test mode, for what it brings and for what it blocks. [Test.2] [Test.7a]"""
+    yield from waves(["held"], [line.is_held for line in lines])
+    yield from waves(["test mode"], [line.is_tested for line in lines])
+    yield from waves(["test pulse"], [line.written != 0 for line in lines])
+    yield from waves(["blocked"], [is_blocked(line) for line in lines])
+
+
 def diagram(lines):
-    ticks = [line.tick for line in lines]
+    ticks = [line.met for line in lines]
     yield row("tick", [tick.number for tick in ticks])
     yield row("ns", [tick.start for tick in ticks])
+    yield from modes(lines)
     yield wave("trigger", [tick.triggers for tick in ticks])
     yield from waves(names.LINES_IN, [tick.lines for tick in ticks])
     for mask in names.MASKS:
@@ -98,7 +122,8 @@ def notes(run):
             continue
         yield f"After tick {number}:\n" if number else "Before tick 1:\n"
         for line in lines:
-            yield f"- `{session.shown(line.text)}`, `{line.answer}`: {'; '.join(line_words(line))}"
+            note = f"- `{session.shown(line.text)}`, `{line.answer}`: {'; '.join(line_words(line))}"
+            yield textwrap.fill(note, COLUMNS, subsequent_indent="  ", break_on_hyphens=False)
         yield ""
 
 
