@@ -37,7 +37,7 @@ use Rattle.sequencer.proofs.MainLaws.{step-loads-in-order}
 use Rattle.sequencer.proofs.MainLaws as sequencer
 use Rattle.scalers.specs.Scalers.{isSome}
 use Rattle.trigger.specs.Lines.{hasFrontBusy}
-use Rattle.trigger.specs.Latch.{wordAtOf, latchOf}
+use Rattle.trigger.specs.Latch.{wordAtOf, noLatch, latchOf}
 use Rattle.trigger.specs.declared.lines.Inputs.{Inputs}
 use Rattle.trigger.specs.BlindTime.{isOver}
 use Rattle.trigger.specs.declared.lines.Lines.{Lines}
@@ -163,14 +163,14 @@ sound-waits-at-idle c sound =
 
 -- ---- the memory's word
 
-none-latched : (ready ok : Bool) → record { lost = 0; rejected = 0; accepted = 0 } ≡ latchOf ready ok 0
+pub none-latched : (ready ok : Bool) → noLatch ≡ latchOf ready ok 0
 none-latched true true = refl
 none-latched true false = refl
 none-latched false ok = refl
 
 -- [Ready.3] where nothing passed nothing is latched
 pub latched-at-none : (l : Lines) (memory : List ℕ) (passed : ℕ) (c : Core) → passed ≡ 0
-    → record { latch = record { lost = 0; rejected = 0; accepted = 0 }; word = 0 } ≡ latchedOf l memory passed c
+    → record { latch = noLatch; word = 0 } ≡ latchedOf l memory passed c
 unfolding latchedOf
 latched-at-none l memory passed c none =
     rw none (ap (λ (k : Latch). record { latch = k; word = 0 }) (none-latched (isReadyOf l c) (isOkWord (wordAtOf memory 0))))

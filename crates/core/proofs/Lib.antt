@@ -1,4 +1,5 @@
 -- The laws, in the order of reading; the proofs of functions stand in folders of their own. Assumes nothing.
 pub mod CoreParts
+pub mod CoreIdle
 pub mod CoreEvents
 pub mod CoreLaws

@@ -10,6 +10,7 @@ use Rattle.sync.specs.declared.user.UserSync.{UserSync}
 use Rattle.sequencer.specs.declared.main_sequencer.MainSequencer.{MainSequencer}
 use Rattle.scalers.specs.declared.Scalers.{Scalers}
 use Rattle.trigger.specs.declared.blind.BlindTime.{BlindTime}
+use Rattle.trigger.specs.declared.latest.Latest.{Latest}
 use Rattle.testing.specs.declared.TestWord.{TestWord}
 use Rattle.core.specs.declared.Core.{Core}
 
@@ -42,3 +43,6 @@ withMain v c = record { prescalers = c .prescalers; csr = c .csr; control = c .c
 
 abbrev pub withUser : UserSync → Core → Core
 withUser v c = record { prescalers = c .prescalers; csr = c .csr; control = c .control; test = c .test; scalers = c .scalers; main = c .main; timers = c .timers; sync = c .sync; blind = c .blind; user = v; latest = c .latest }
+
+abbrev pub withLatest : Latest → Core → Core
+withLatest v c = record { prescalers = c .prescalers; csr = c .csr; control = c .control; test = c .test; scalers = c .scalers; main = c .main; timers = c .timers; sync = c .sync; blind = c .blind; user = c .user; latest = v }

@@ -1,6 +1,6 @@
 // The core of the supervisor: all of the record but the branches (document 01, "The tick"; document 02, N1, N2, N5). It sees
 // the branches through two facts, every one empty and every one below its depth. The definitions are in specs/Core.antt; the
-// spoiled rule is in spoiled, the same core built anew in rebuilt.
+// spoiled rule is in spoiled, a tick in which no sequencer moves in idle, the same core built anew in rebuilt.
 ghost use mathlib.Core.Path.{_≡_};
 ghost use Rattle.core.specs.Core.{freshOf, resetOf, pulsedOf, isOpenOf, isReadyOf, testsOf};
 ghost use Rattle.core.specs.Core.{cycleStepOf, mainStepOf, settledOf, latchedOf, stepOf, linesOutOf, isActiveOf};
@@ -20,10 +20,10 @@ use sync::user::UserSync;
 use testing::TestWord;
 use timers::Timers;
 use trigger::blind::BlindTime;
+use trigger::effects::count_after;
 use trigger::effects::csr_after;
 use trigger::effects::outcome_of;
 use trigger::effects::signals_of;
-use trigger::effects::sync_after;
 use trigger::latch::Latch;
 use trigger::latch::Masks;
 use trigger::latch::latch_of;
@@ -33,6 +33,7 @@ use trigger::latest::Latest;
 use trigger::lines::Inputs;
 use trigger::lines::Lines;
 
+mod idle;
 mod rebuilt;
 mod spoiled;
 
@@ -174,24 +175,20 @@ impl Core {
         ensures { λ r. ⌜ r ≡ settledOf lines p latch m u self ⌝ }
     {
         let csr = self.csr;
-        let control = self.control;
-        let timers = self.timers;
         let prescalers = p.next;
         let main = m.next;
         let user = u.next;
-        let next = Core {
-            prescalers,
-            csr: csr_after(csr, lines, m, u),
-            control,
-            test: TestWord::fresh(),
-            scalers: self.scalers.counted(signals_of(p.passed, latch, m, u)),
-            main,
-            timers,
-            sync: sync_after(self.sync, csr.enables_sync(), m, u),
-            blind: self.blind.after(latch.rejected),
-            user,
-            latest: Latest::kept(lines, latch),
-        };
+        let count = count_after(self.sync, csr.enables_sync(), m, u);
+        let mut next = self;
+        next.prescalers = prescalers;
+        next.csr = csr_after(csr, lines, m, u);
+        next.test = TestWord::fresh();
+        next.scalers = self.scalers.counted(signals_of(p.passed, latch, m, u));
+        next.main = main;
+        next.sync.count = count;
+        next.blind = self.blind.after(latch.rejected);
+        next.user = user;
+        next.latest = Latest::kept(lines, latch);
         CoreStep {
             next,
             masks: masks_of(p, latch),
@@ -204,12 +201,10 @@ impl Core {
         ensures { λ r. ⌜ r ≡ latchedOf lines (now (memory .entry)) passed self ⌝ }
     {
         if passed == 0 {
-            let latch = Latch {
-                lost: 0,
-                rejected: 0,
-                accepted: 0,
+            return Latched {
+                latch: Latch::none(),
+                word: 0,
             };
-            return Latched { latch, word: 0 };
         }
         let word = word_at(memory, passed);
         let latch = latch_of(self.is_ready(lines), word, passed);
@@ -250,6 +245,9 @@ impl Core {
         let user = self.user;
         let lines = x.lines;
         let p = self.pulsed(x);
+        if self.stays_idle(p.passed) {
+            return self.stayed_idle(lines, p);
+        }
         let l = self.latched(lines, memory, p.passed);
         let latch = l.latch;
         let m = self.main_step(lines, latch, l.word, room, empty);

@@ -32,6 +32,8 @@ use trigger::lines::Inputs;
 // How many inputs the table has; the registers 0–21 stand after them, STATE as 0.
 const INPUTS: usize = 16384;
 
+const REGISTERS: usize = 22;
+
 fn register_at(table: &[u64], number: usize) -> u32 {
     let place = INPUTS + number % 32;
     (number_at(table, place) % 4294967296) as u32
@@ -204,9 +206,12 @@ fn inputs_in(packed: u64) -> Inputs {
     Inputs::brought(triggers, lines, (packed / 4294967296 % 4294967296) as u32)
 }
 
-// n ticks, over and over through the table's inputs.
+// n ticks, over and over through the table's inputs; 0 for a table that is too short, asked once and not at each tick.
 #[no_mangle]
 pub extern "C" fn run_ticks(n: u64, memory: &[u16], table: &[u64]) -> u64 {
+    if table.len() < INPUTS + REGISTERS {
+        return 0;
+    }
     let mut s = record_in(table);
     let mut sum: u64 = 0;
     let mut i: u64 = 0;

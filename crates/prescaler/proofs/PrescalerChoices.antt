@@ -1,28 +1,27 @@
 -- The code's choices are the step of document 01: a bank that it does not look at, and eight prescalers put together.
---     allStopped, allPassed, pulsed   what the code builds in each case
+--     allStopped, allPassed, counted   what the code builds in each case
 --     stopped-by-choices    a bank that does not run stays, and every pulse is stopped, for `step`
 --     passed-by-choices     with no pulse on inputs 1–8 a bank that runs stays, and every pulse passes, for `step`
---     gathered-by-choices   what `gathered` makes of eight pulses is the step of a bank that runs, for `counted_down`
+--     counted-by-choices    eight counters and one mask are the step of a bank that runs, for `counted_down`
+--     scaled-by-digits      eight numbers make the mask of its scaled pulses, for `scaled_of`
 -- Assumes nothing.
-use Prim.Native.Nat.{ℕ, _%_, _^_, _<_, _≤_}
+use Prim.Native.Nat.{ℕ, zero, suc, _+_, _*_, _/_, _%_, _^_, _<_, _≤_}
 use mathlib.Core.Path.{_≡_, refl, sym, ap, _∙_}
-use mathlib.Core.Bool.{Bool, true, false, not, _&&_}
+use mathlib.Core.Bool.{Bool, true, false, not, _&&_, _||_}
 use mathlib.Core.List.{List}
-use lib.Dec.{ltb, lit≤}
-use lib.ListN.{getD}
+use native.Mathlib.Omega.{arith}
+use lib.Dec.{eqb, ltb, lit≤}
 use borrow.Author.Tests.{ltb-true, ltb-false, lt-ltb, le-leb, lt-leb}
-use Rattle.bits.specs.Notation.{_▷_}
-use Rattle.bits.specs.Bits.{bitAt, maskOf, tabulate, clearOf}
+use Rattle.bits.specs.Notation.{if_then_else_, _▷_}
+use Rattle.bits.specs.Bits.{bitAt, oneIfOf, maskOf, tabulate, clearOf}
 use Rattle.bits.proofs.BitsLaws.{zero-at, low-at, mask-same, mask-none, mask-of-bits, mask-wider, clear-mask}
-use Rattle.bits.proofs.BitsLaws.{tabulate-at, tabulate-same}
+use Rattle.bits.proofs.BitsLaws.{tabulate-same}
 use Rattle.prescaler.specs.PrescalerFields.{withCounters, counterAt, factorAt}
 use Rattle.registers.specs.Control.{inputs}
-use Rattle.prescaler.specs.Prescaler.{prescaledInputs, fateOf, FateFacts, factsOf}
-use Rattle.prescaler.specs.Prescaler.{unmoved, pulseOf, isAtZero, fateAt, counterAfterAt, stepOf, gatheredOf}
-use Rattle.prescaler.specs.Prescaler.{EightPlaces}
+use Rattle.prescaler.specs.Prescaler.{prescaledInputs, fateOf, counterAfter, FateFacts, factsOf}
+use Rattle.prescaler.specs.Prescaler.{isAtZero, fateAt, counterAfterAt, stepOf, scaledOf, EightPlaces}
 use Rattle.prescaler.specs.declared.Prescalers.{Prescalers}
 use Rattle.prescaler.specs.declared.Prescaled.{Prescaled}
-use Rattle.prescaler.specs.declared.Counted.{Counted}
 use Rattle.prescaler.proofs.PrescalerLaws.{factAt, bank-stays, stopped-keeps-bank}
 
 -- ---- what the code builds
@@ -37,12 +36,15 @@ allStopped pulses b = prescaled b (pulses % 2 ^ inputs) 0 0
 abbrev pub allPassed : (pulses : ℕ) → Prescalers → Prescaled
 allPassed pulses b = prescaled b 0 0 (pulses % 2 ^ inputs)
 
--- what a pulse does to each of the eight prescalers
-abbrev pulsedAt : (pulses : ℕ) → Prescalers → (i : ℕ) → Counted
-pulsedAt pulses b i = pulseOf (bitAt pulses i) (counterAt b i) (factorAt b i)
+-- eight counters, each after its pulse
+abbrev pub countersAfter : (pulses : ℕ) → Prescalers → List ℕ
+countersAfter pulses b =
+    tabulate prescaledInputs
+    (λ i. counterAfter (fateOf (bitAt pulses i) true (eqb (counterAt b i) 0)) (counterAt b i) (factorAt b i))
 
-abbrev pub pulsed : (pulses : ℕ) → Prescalers → List Counted
-pulsed pulses b = tabulate prescaledInputs (pulsedAt pulses b)
+abbrev pub counted : (counters : List ℕ) (scaled pulses : ℕ) → Prescalers → Prescaled
+counted counters scaled pulses b =
+    prescaled (b ▷ withCounters counters) 0 scaled (clearOf scaled (pulses % 2 ^ inputs))
 
 -- ---- the masks, from the facts of each input
 
@@ -133,18 +135,6 @@ module _ (pulses : ℕ) (b : Prescalers) where
   abbrev passedAt : ℕ → Bool
   passedAt = factAt (λ f. f .isPassed) true pulses b
 
-  counter-of-pulse : (i : ℕ) → i < prescaledInputs
-      → getD (pulsed pulses b) i unmoved .counter ≡ counterAfterAt true pulses b i
-  unfolding pulseOf
-  counter-of-pulse i h =
-      rw (lt-leb prescaledInputs i h, tabulate-at prescaledInputs (pulsedAt pulses b) i unmoved h)
-
-  scaled-of-pulse : (i : ℕ) → i < prescaledInputs
-      → getD (pulsed pulses b) i unmoved .scaled ≡ factsOf (fateAt true pulses b i) .isScaled
-  unfolding pulseOf
-  scaled-of-pulse i h =
-      rw (lt-leb prescaledInputs i h, tabulate-at prescaledInputs (pulsedAt pulses b) i unmoved h)
-
   none-stopped : 0 ≡ maskOf inputs (factAt (λ f. f .isStopped) true pulses b)
   none-stopped =
       sym (mask-same inputs (factAt (λ f. f .isStopped) true pulses b) (λ i. false)
@@ -154,10 +144,8 @@ module _ (pulses : ℕ) (b : Prescalers) where
   unprescaled-not-scaled i h =
       rw (le-leb prescaledInputs i h) (ap (λ (f : FateFacts). f .isScaled) (passed-row (bitAt pulses i)))
 
-  eight-are-all-scaled : maskOf prescaledInputs (λ i. getD (pulsed pulses b) i unmoved .scaled) ≡ maskOf inputs scaledAt
-  eight-are-all-scaled =
-      mask-same prescaledInputs (λ i. getD (pulsed pulses b) i unmoved .scaled) scaledAt scaled-of-pulse
-      ∙ mask-wider prescaledInputs inputs scaledAt (lit≤ tt) unprescaled-not-scaled
+  eight-are-all-scaled : scaledOf pulses b ≡ maskOf inputs scaledAt
+  eight-are-all-scaled = mask-wider prescaledInputs inputs scaledAt (lit≤ tt) unprescaled-not-scaled
 
   rest-passes : clearOf (maskOf inputs scaledAt) (pulses % 2 ^ inputs) ≡ maskOf inputs passedAt
   rest-passes =
@@ -165,15 +153,57 @@ module _ (pulses : ℕ) (b : Prescalers) where
       ∙ mask-same inputs (λ i. bitAt pulses i && not (scaledAt i)) passedAt
       (λ i h. running-rest-passed (bitAt pulses i) (isAtZero b i))
 
-  gathered-is-step : gatheredOf (pulsed pulses b) pulses b ≡ stepOf true pulses b
-  unfolding gatheredOf stepOf
-  gathered-is-step =
-      let counters =
-      tabulate-same prescaledInputs (λ i. getD (pulsed pulses b) i unmoved .counter)
-      (counterAfterAt true pulses b) counter-of-pulse in
-      let passed = ap (λ (m : ℕ). clearOf m (pulses % 2 ^ inputs)) eight-are-all-scaled ∙ rest-passes in
-      λ j. prescaled (b ▷ withCounters (counters j)) (none-stopped j) (eight-are-all-scaled j) (passed j)
+  eight-are-all-counters : countersAfter pulses b ≡ tabulate prescaledInputs (counterAfterAt true pulses b)
+  eight-are-all-counters =
+      tabulate-same prescaledInputs
+      (λ i. counterAfter (fateOf (bitAt pulses i) true (eqb (counterAt b i) 0)) (counterAt b i) (factorAt b i))
+      (counterAfterAt true pulses b) (λ i h. rw (lt-leb prescaledInputs i h))
 
-  pub gathered-by-choices : {all : List Counted} → all ≡ pulsed pulses b
-      → gatheredOf all pulses b ≡ stepOf true pulses b
-  gathered-by-choices e = ap (λ (l : List Counted). gatheredOf l pulses b) e ∙ gathered-is-step
+  counted-is-step : counted (countersAfter pulses b) (scaledOf pulses b) pulses b ≡ stepOf true pulses b
+  unfolding stepOf
+  counted-is-step =
+      let passed = ap (λ (m : ℕ). clearOf m (pulses % 2 ^ inputs)) eight-are-all-scaled ∙ rest-passes in
+      λ j. prescaled (b ▷ withCounters (eight-are-all-counters j)) (none-stopped j) (eight-are-all-scaled j) (passed j)
+
+  pub counted-by-choices : {counters : List ℕ} {scaled : ℕ} → counters ≡ countersAfter pulses b
+      → scaled ≡ scaledOf pulses b → counted counters scaled pulses b ≡ stepOf true pulses b
+  counted-by-choices e k = (λ j. counted (e j) (k j) pulses b) ∙ counted-is-step
+
+-- ---- its mask of scaled pulses, as a sum of eight numbers
+
+scaled-digit : (pulse : ℕ) (atZero : Bool) → pulse < 2
+    → (if atZero then 0 else pulse) ≡ oneIfOf (factsOf (fateOf (eqb pulse 1) true atZero) .isScaled)
+scaled-digit zero true h = refl
+scaled-digit zero false h = refl
+scaled-digit (suc zero) true h = refl
+scaled-digit (suc zero) false h = refl
+scaled-digit (suc (suc n)) atZero h = absurd (omega arith)
+
+-- the number of input i + 1, as the code makes it
+abbrev pub digitAt : (pulses : ℕ) → Prescalers → (i : ℕ) → ℕ
+digitAt pulses b i = if eqb (counterAt b i) 0 then 0 else pulses / 2 ^ i % 2
+
+digit-is-scaled : (pulses : ℕ) (b : Prescalers) (i : ℕ) → i < prescaledInputs
+    → digitAt pulses b i ≡ oneIfOf (scaledAt pulses b i)
+digit-is-scaled pulses b i h =
+    scaled-digit (pulses / 2 ^ i % 2) (eqb (counterAt b i) 0) (omega arith)
+    ∙ ap (λ (t : Bool). oneIfOf (factsOf (fateOf (bitAt pulses i) true (t || eqb (counterAt b i) 0)) .isScaled))
+    (sym (lt-leb prescaledInputs i h))
+
+pub scaled-by-digits : (pulses : ℕ) (b : Prescalers)
+    → digitAt pulses b 0 + 2 * digitAt pulses b 1 + 4 * digitAt pulses b 2 + 8 * digitAt pulses b 3
+    + 16 * digitAt pulses b 4 + 32 * digitAt pulses b 5 + 64 * digitAt pulses b 6 + 128 * digitAt pulses b 7
+    ≡ scaledOf pulses b
+unfolding maskOf
+scaled-by-digits pulses b =
+    rw (
+      digit-is-scaled pulses b 0 (lit≤ tt),
+      digit-is-scaled pulses b 1 (lit≤ tt),
+      digit-is-scaled pulses b 2 (lit≤ tt),
+      digit-is-scaled pulses b 3 (lit≤ tt),
+      digit-is-scaled pulses b 4 (lit≤ tt),
+      digit-is-scaled pulses b 5 (lit≤ tt),
+      digit-is-scaled pulses b 6 (lit≤ tt),
+      digit-is-scaled pulses b 7 (lit≤ tt),
+    )
+    (omega arith)

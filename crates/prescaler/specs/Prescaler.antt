@@ -15,13 +15,12 @@ use mathlib.Core.List.{List}
 use lib.Dec.{eqb, leb}
 use lib.ListN.{length, getD, set, replicate}
 use Rattle.bits.specs.Notation.{if_then_else_, _▷_}
-use Rattle.bits.specs.Bits.{bitAt, maskOf, tabulate, every, clearOf}
+use Rattle.bits.specs.Bits.{bitAt, maskOf, tabulate, every}
 use Rattle.registers.specs.Control.{inputs}
 use Rattle.registers.specs.Registers.{isValidFactor}
 use Rattle.prescaler.specs.PrescalerFields.{withCounters, withFactors, counterAt, factorAt}
 use Rattle.prescaler.specs.declared.Prescalers.{Prescalers}
 use Rattle.prescaler.specs.declared.Prescaled.{Prescaled}
-use Rattle.prescaler.specs.declared.Counted.{Counted}
 
 -- ---- constants of document 01
 
@@ -91,17 +90,6 @@ factsOf stopped = facts true false false
 factsOf scaled = facts false true false
 factsOf passed = facts false false true
 
-abbrev pub unmoved : Counted
-unmoved = record { counter = 0; scaled = false }
-
--- what a pulse does to one prescaler of a bank that runs
-unfoldable pub pulseOf : (counted : Bool) (counter factor : ℕ) → Counted
-pulseOf counted counter factor =
-    record {
-      counter = counterAfter (fateOf counted true (eqb counter 0)) counter factor;
-      scaled = factsOf (fateOf counted true (eqb counter 0)) .isScaled;
-    }
-
 -- ---- a tick of the bank
 
 -- [Pulses.5] a pulse of inputs 9–12, which have no counter, passes like one that meets a counter at 0
@@ -124,15 +112,9 @@ stepOf runs pulses b =
       passed = maskOf inputs (λ i. factsOf (fateAt runs pulses b i) .isPassed);
     }
 
--- the same of a bank that runs, put together from what a pulse does to each prescaler
-unfoldable pub gatheredOf : List Counted → (pulses : ℕ) → Prescalers → Prescaled
-gatheredOf all pulses b =
-    record {
-      next = b ▷ withCounters (tabulate prescaledInputs (λ i. getD all i unmoved .counter));
-      stopped = 0;
-      scaled = maskOf prescaledInputs (λ i. getD all i unmoved .scaled);
-      passed = clearOf (maskOf prescaledInputs (λ i. getD all i unmoved .scaled)) (pulses % 2 ^ inputs);
-    }
+-- of a bank that runs; no pulse of inputs 9–12 is scaled
+abbrev pub scaledOf : (pulses : ℕ) → Prescalers → ℕ
+scaledOf pulses b = maskOf prescaledInputs (λ i. factsOf (fateAt true pulses b i) .isScaled)
 
 -- ---- what of the bank spoils a record
 

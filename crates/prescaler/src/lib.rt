@@ -2,9 +2,12 @@
 // The bank goes in by value and comes back. Every contract is an equality with a definition of specs/.
 ghost use mathlib.Core.Path.{_≡_};
 ghost use mathlib.Core.Bool.{true};
+ghost use Prim.Native.Nat.{_≤_};
+ghost use lib.Dec.{eqb};
+ghost use Rattle.bits.specs.Notation.{if_then_else_};
 ghost use Rattle.prescaler.specs.Prescaler.{freshOf, withFactorOf, factorOf, reloadedOf};
-ghost use Rattle.prescaler.specs.Prescaler.{pulseOf, gatheredOf, stepOf, allFitOf, hasCountersWithinOf};
-ghost use Rattle.prescaler.specs.Prescaler.{hasValidFactorsOf};
+ghost use Rattle.prescaler.specs.Prescaler.{fateOf, counterAfter, scaledOf, stepOf};
+ghost use Rattle.prescaler.specs.Prescaler.{allFitOf, hasCountersWithinOf, hasValidFactorsOf};
 use registers::register::Register;
 
 // Place i is input i + 1.
@@ -21,33 +24,28 @@ pub struct Prescaled {
     pub passed: u32,
 }
 
-// What a pulse did to one prescaler.
-pub struct Counted {
-    pub counter: u32,
-    pub scaled: bool,
-}
-
-// [Pulses.3] [Pulses.4] one prescaler of a bank that runs
-fn pulse(counted: bool, counter: u32, factor: u32) -> Counted
-    ensures { λ r. ⌜ r ≡ pulseOf counted counter factor ⌝ }
+// [Pulses.3] [Pulses.4] the counter of one prescaler of a bank that runs
+fn counter_after(counted: bool, counter: u32, factor: u32) -> u32
+    ensures { λ r. ⌜ r ≡ counterAfter (fateOf counted true (eqb counter 0)) counter factor ⌝ }
 {
     if counted {
         if 0 < counter {
-            let less = counter - 1;
-            return Counted {
-                counter: less,
-                scaled: true,
-            };
+            return counter - 1;
         }
-        return Counted {
-            counter: factor,
-            scaled: false,
-        };
+        return factor;
     }
-    Counted {
-        counter,
-        scaled: false,
+    counter
+}
+
+// [Pulses.3] a pulse, 0 or 1, that meets a counter above 0 is scaled. The second clause is what a sum of them asks.
+fn scaled(pulse: u32, counter: u32) -> u32
+    ensures { λ r. ⌜ r ≡ (if eqb counter 0 then 0 else pulse) ⌝ }
+    ensures { λ r. ⌜ r ≤ pulse ⌝ }
+{
+    if 0 < counter {
+        return pulse;
     }
+    0
 }
 
 impl Prescalers {
@@ -112,46 +110,19 @@ impl Prescalers {
         }
     }
 
-    fn gathered(self, all: [Counted; 8], pulses: u32) -> Prescaled
-        ensures { λ r. ⌜ r ≡ gatheredOf all pulses self ⌝ }
+    // [Pulses.3] of a bank that runs; numbers and not tests, so that a compiler takes several at once
+    fn scaled_of(self, pulses: u32) -> u32
+        ensures { λ r. ⌜ r ≡ scaledOf pulses self ⌝ }
     {
-        let factors = self.factors;
-        let p0 = all[0];
-        let p1 = all[1];
-        let p2 = all[2];
-        let p3 = all[3];
-        let p4 = all[4];
-        let p5 = all[5];
-        let p6 = all[6];
-        let p7 = all[7];
-        let scaled = bits::mask8([
-            p0.scaled,
-            p1.scaled,
-            p2.scaled,
-            p3.scaled,
-            p4.scaled,
-            p5.scaled,
-            p6.scaled,
-            p7.scaled,
-        ]);
-        let counters = [
-            p0.counter,
-            p1.counter,
-            p2.counter,
-            p3.counter,
-            p4.counter,
-            p5.counter,
-            p6.counter,
-            p7.counter,
-        ];
-        let next = Prescalers { counters, factors };
-        let passed = bits::clear(pulses % Prescalers::INPUTS_LIMIT, scaled);
-        Prescaled {
-            next,
-            stopped: 0,
-            scaled,
-            passed,
-        }
+        let c = self.counters;
+        scaled(pulses / 1 % 2, c[0])
+            + 2 * scaled(pulses / 2 % 2, c[1])
+            + 4 * scaled(pulses / 4 % 2, c[2])
+            + 8 * scaled(pulses / 8 % 2, c[3])
+            + 16 * scaled(pulses / 16 % 2, c[4])
+            + 32 * scaled(pulses / 32 % 2, c[5])
+            + 64 * scaled(pulses / 64 % 2, c[6])
+            + 128 * scaled(pulses / 128 % 2, c[7])
     }
 
     // All eight prescalers, each by itself: a loop over the pulses that are there would be slower.
@@ -160,19 +131,27 @@ impl Prescalers {
     {
         let c = self.counters;
         let f = self.factors;
-        self.gathered(
-            [
-                pulse(pulses / 1 % 2 == 1, c[0], f[0]),
-                pulse(pulses / 2 % 2 == 1, c[1], f[1]),
-                pulse(pulses / 4 % 2 == 1, c[2], f[2]),
-                pulse(pulses / 8 % 2 == 1, c[3], f[3]),
-                pulse(pulses / 16 % 2 == 1, c[4], f[4]),
-                pulse(pulses / 32 % 2 == 1, c[5], f[5]),
-                pulse(pulses / 64 % 2 == 1, c[6], f[6]),
-                pulse(pulses / 128 % 2 == 1, c[7], f[7]),
-            ],
-            pulses,
-        )
+        let counters = [
+            counter_after(pulses / 1 % 2 == 1, c[0], f[0]),
+            counter_after(pulses / 2 % 2 == 1, c[1], f[1]),
+            counter_after(pulses / 4 % 2 == 1, c[2], f[2]),
+            counter_after(pulses / 8 % 2 == 1, c[3], f[3]),
+            counter_after(pulses / 16 % 2 == 1, c[4], f[4]),
+            counter_after(pulses / 32 % 2 == 1, c[5], f[5]),
+            counter_after(pulses / 64 % 2 == 1, c[6], f[6]),
+            counter_after(pulses / 128 % 2 == 1, c[7], f[7]),
+        ];
+        let scaled = self.scaled_of(pulses);
+        let next = Prescalers {
+            counters,
+            factors: f,
+        };
+        Prescaled {
+            next,
+            stopped: 0,
+            scaled,
+            passed: bits::clear(pulses % Prescalers::INPUTS_LIMIT, scaled),
+        }
     }
 
     // [Pulses.2] [Pulses.5] the counted pulses; runs: GO or OPEN PRESCALES is set. Where no counter can move none is looked at.

@@ -1,1 +1,2 @@
 -- The laws. Assumes nothing.
+pub mod ScalersLaws

@@ -13,7 +13,7 @@ use sync::user::UserStep;
 use sync::user::UserSync;
 
 // [Ready.6] [Main.6] [Main.11] status bits 16, 17 and 18
-fn status(inhibit: bool, late: bool, sync: bool) -> u32
+pub fn status(inhibit: bool, late: bool, sync: bool) -> u32
     ensures { λ r. ⌜ r ≡ statusOf inhibit late sync ⌝ }
 {
     bits::one_if(inhibit) * Csr::INHIBIT
@@ -21,26 +21,32 @@ fn status(inhibit: bool, late: bool, sync: bool) -> u32
         + bits::one_if(sync) * Csr::SYNC
 }
 
+// [Main.14] [Usersync.2] where no wait ends the status bits alone change
 pub fn csr_after(csr: Csr, lines: Lines, m: MainStep, u: UserStep) -> Csr
     ensures { λ r. ⌜ r ≡ csrAfterOf lines m u csr ⌝ }
 {
     let marks = status(lines.has_inhibit(), m.late, m.sync | u.tag);
+    if !(m.ended | u.ended) {
+        return csr.marked(marks);
+    }
     let held = csr.sync_hold_ended_if(m.ended);
     let waited = held.user_sync_ended_if(u.ended);
     waited.marked(marks)
 }
 
-pub fn sync_after(sync: SyncCounter, enabled: bool, m: MainStep, u: UserStep) -> SyncCounter
-    ensures { λ r. ⌜ r ≡ syncAfterOf enabled m u sync ⌝ }
+// [Main.10] [Main.14] [Usersync.2] the sync count alone: no move changes the interval
+pub fn count_after(sync: SyncCounter, enabled: bool, m: MainStep, u: UserStep) -> u16
+    ensures { λ r. ⌜ r ≡ syncAfterOf enabled m u sync .count ⌝ }
 {
     let outcome = m.outcome;
     if m.ended | u.ended {
-        return sync.zeroed();
+        return 0;
     }
     if outcome.is_event() {
-        return sync.after_load(enabled);
+        let next = sync.after_load(enabled);
+        return next.count;
     }
-    sync
+    sync.count
 }
 
 pub fn outcome_of(m: MainStep, u: UserStep) -> Outcome

@@ -2,7 +2,7 @@
 // of the answer (document 01, "Registers", Memory; "The tick", Ready). The definitions are in specs/Latch.antt.
 ghost use mathlib.Core.Path.{_≡_};
 ghost use Rattle.sequencer.specs.MemoryWord.{isOkWord};
-ghost use Rattle.trigger.specs.Latch.{wordAtOf, latchOf, masksOf};
+ghost use Rattle.trigger.specs.Latch.{wordAtOf, noLatch, latchOf, masksOf};
 use prescaler::Prescaled;
 use sequencer::memory_word::is_ok_word;
 
@@ -20,6 +20,19 @@ pub struct Masks {
     pub lost: u32,
     pub rejected: u32,
     pub accepted: u32,
+}
+
+impl Latch {
+    // [Ready.3] nothing passed
+    pub fn none() -> Latch
+        ensures { λ r. ⌜ r ≡ noLatch ⌝ }
+    {
+        Latch {
+            lost: 0,
+            rejected: 0,
+            accepted: 0,
+        }
+    }
 }
 
 // [Memory.1] the word at the place of a pattern, 0 past the memory's end

@@ -9,7 +9,7 @@ use reference::machine::{Answer, Count20, Count40, Outcome, Supervisor, MEMORY_W
 use std::hint::black_box;
 use std::process::ExitCode;
 use std::time::Instant;
-use traffic::{holding, memory, table, BUSY, IDLE, INPUTS};
+use traffic::{holding, memory, table, INPUTS, KINDS};
 
 extern "C" {
     fn run_ticks(n: u64, memory: *const u16, memory_len: usize, table: *const u64, table_len: usize) -> u64;
@@ -155,7 +155,7 @@ mod layout {
 fn times(runs: usize) -> ExitCode {
     let memory = memory();
     println!("nanoseconds a tick, best of {runs} runs of {TICKS} ticks by turns");
-    for traffic in [IDLE, BUSY] {
+    for traffic in KINDS {
         let Some([proved, model]) = best(runs, TICKS, &memory, &table(traffic)) else { return ExitCode::FAILURE };
         println!("  {:<12} proved {proved:6.1}   model {model:6.1}   ratio {:.2}", traffic.name, proved / model);
     }
@@ -178,7 +178,7 @@ fn times(runs: usize) -> ExitCode {
 fn count(side: &str, traffic: &str, ticks: u64) -> ExitCode {
     let memory = memory();
     let found = SIDES.iter().find(|(name, _)| *name == side);
-    let kind = [IDLE, BUSY].into_iter().find(|kind| kind.name == traffic);
+    let kind = KINDS.into_iter().find(|kind| kind.name == traffic);
     let (Some((_, run)), Some(kind)) = (found, kind) else { return ExitCode::FAILURE };
     let sum = run(black_box(ticks), &memory, &table(kind));
     println!("{side} {traffic} {ticks} {sum:016X}");

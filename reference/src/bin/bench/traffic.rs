@@ -15,12 +15,12 @@ impl Random {
         self.0.wrapping_mul(0x2545_F491_4F6C_DD1D) >> 16
     }
 
-    fn chance(&mut self, of_1000: u64) -> bool {
-        self.next() % 1000 < of_1000
+    fn chance(&mut self, of_1024: u64) -> bool {
+        self.next() % 1024 < of_1024
     }
 }
 
-/// How often something comes in, in a thousand ticks.
+/// How often something comes in, in 1,024 ticks.
 #[derive(Clone, Copy)]
 pub struct Traffic {
     pub name: &'static str,
@@ -30,13 +30,13 @@ pub struct Traffic {
     busy: u64,
     /// Acknowledges that change from all high to all low or back.
     turns: u64,
-    factor: u64,
 }
 
-pub const IDLE: Traffic =
-    Traffic { name: "idle-heavy", pulses: 5, passes: 300, fails: 20, busy: 10, turns: 300, factor: 1 };
-pub const BUSY: Traffic =
-    Traffic { name: "busy-heavy", pulses: 800, passes: 400, fails: 60, busy: 60, turns: 500, factor: 1 };
+/// Pulses in one tick of 256, of 32, and in seven of eight.
+pub const QUIET: Traffic = Traffic { name: "quiet", pulses: 4, passes: 300, fails: 20, busy: 10, turns: 300 };
+pub const IDLE: Traffic = Traffic { name: "idle-heavy", pulses: 32, passes: 300, fails: 20, busy: 10, turns: 300 };
+pub const BUSY: Traffic = Traffic { name: "busy-heavy", pulses: 896, passes: 400, fails: 60, busy: 60, turns: 500 };
+pub const KINDS: [Traffic; 3] = [QUIET, IDLE, BUSY];
 
 pub fn memory() -> Vec<u16> {
     let mut random = Random(0x1234_5678_9ABC_DEF1);
@@ -44,7 +44,7 @@ pub fn memory() -> Vec<u16> {
     (0..MEMORY_WORDS as u64)
         .map(|_| {
             let any = random.next() as u16 & 0xFFF0;
-            if random.chance(100) {
+            if random.chance(102) {
                 any
             } else {
                 any | [0x3, 0x5, 0x9][random.next() as usize % 3]
@@ -74,12 +74,12 @@ pub fn table(traffic: Traffic) -> Vec<u64> {
     let registers = [
         0x1D1,
         0x1FFE,
-        traffic.factor,
-        traffic.factor,
+        1,
+        1,
         0,
         0,
-        traffic.factor,
-        traffic.factor,
+        1,
+        1,
         0,
         0,
         0x0101_0101,

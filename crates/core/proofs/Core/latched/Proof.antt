@@ -9,8 +9,8 @@ use Rattle.core.proofs.Core.latched.Tie as tie
 
 returns : tie.Need-returns
 returns c =
-    let a = c .before .before .args in
-    latched-at-none (a .lines) _ (a .passed) (a .self) (c .if1 .taken)
+    let a = c .before .before .before .args in
+    rw (c .none .ensures) (latched-at-none (a .lines) _ (a .passed) (a .self) (c .before .if1 .taken))
 
 returns-2 : tie.Need-returns-2
 unfolding latchedOf
@@ -24,4 +24,5 @@ returns-2 c =
 
 pub latched-spec : {M : Type 1} → statement M
 latched-spec =
-    tie.close (tie.spec returns (λ c κs. search needs) (λ c κs. search needs) (λ c κs. search needs) returns-2)
+    tie.close
+    (tie.spec (λ c κs. search needs) returns (λ c κs. search needs) (λ c κs. search needs) (λ c κs. search needs) returns-2)

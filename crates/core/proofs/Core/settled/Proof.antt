@@ -1,6 +1,8 @@
--- `core::Core::settled` meets its contract: the literal is the definition, each field as its call ensures.
+-- `core::Core::settled` meets its contract: each field as its call ensures; of the sync counter the count alone
+-- is set (`sync-after-by-count`).
 -- First written by tools/prove.py. Assumes nothing.
 use Rattle.core.specs.Core.{settledOf}
+use Rattle.trigger.proofs.EffectsLaws.{sync-after-by-count}
 use borrow.Author.Needs.{needs}
 use Rattle.core.proofs.Core.settled.Statement.{statement}
 use Rattle.core.proofs.Core.settled.Tie as tie
@@ -13,12 +15,13 @@ returns c =
       c .before .masks-of .ensures,
       c .before .before .kept .ensures,
       c .before .before .before .after .ensures,
-      c .before .before .before .before .sync-after .ensures,
-      c .before .before .before .before .before .enables-sync .ensures,
-      c .before .before .before .before .before .before .counted .ensures,
-      c .before .before .before .before .before .before .before .signals-of .ensures,
-      c .before .before .before .before .before .before .before .before .fresh .ensures,
-      c .before .before .before .before .before .before .before .before .before .csr-after .ensures,
+      c .before .before .before .before .before .counted .ensures,
+      c .before .before .before .before .before .before .signals-of .ensures,
+      c .before .before .before .before .before .before .before .fresh .ensures,
+      c .before .before .before .before .before .before .before .before .csr-after .ensures,
+      c .before .before .before .before .before .before .before .before .before .count-after .ensures,
+      c .before .before .before .before .before .before .before .before .before .before .enables-sync .ensures,
+      sync-after-by-count _ _ _ _,
     )
 
 pub settled-spec : {M : Type 1} → statement M

@@ -1,21 +1,36 @@
--- `core::Core::step` meets its contract: each part, given the record at the tick's start, settled (`step-by-latched`).
--- First written by tools/prove.py. Assumes nothing.
+-- `core::Core::step` meets its contract: where no sequencer moves, what is left of a tick (`stays-idle-by-choices`); else each
+-- part, given the record at the tick's start, settled (`step-by-latched`).
+-- First written by tools/prove.py; `widths` are those of the scalers, the fifth field. Assumes nothing.
+use mathlib.Core.Path.{sym, _∙_}
 use Rattle.core.proofs.CoreParts.{step-by-latched}
+use Rattle.core.proofs.CoreIdle.{stays-idle-by-choices}
 use borrow.Author.Needs.{needs}
 use Rattle.core.proofs.Core.step.Statement.{statement}
 use Rattle.core.proofs.Core.step.Tie as tie
 
 returns : tie.Need-returns
 returns c =
-    let a = c .before .before .before .before .before .before .before .before .before .before .before .before .before .args in
+    let start = c .before .before .before .before .before .before .before .before .before in
+    let a = start .args in
+    let stays = sym (c .before .before .stays-idle .ensures) ∙ c .before .if1 .taken in
+    let widths = start .good .0 .1 .1 .1 .1 .1 .1 .0 .1 .1 in
+    rw (c .stayed-idle .ensures)
+    (stays-idle-by-choices (a .self) (widths .0 .1) (widths .1 .0 .1) (a .room) (a .empty) (a .x) _ _
+    (c .before .before .before .pulsed .ensures) stays)
+
+returns-2 : tie.Need-returns-2
+returns-2 c =
+    let at-latch = c .before .before .before .before .before .before in
+    let at-pulses = at-latch .before .before .before in
+    let a = at-pulses .before .before .before .before .before .before .args in
     rw (
       c .settled .ensures,
       c .before .step .ensures,
       c .before .before .is-idle .ensures,
       c .before .before .before .wants-user-sync .ensures,
       c .before .before .before .before .main-step .ensures,
-      c .before .before .before .before .before .before .latched .ensures,
-      c .before .before .before .before .before .before .before .pulsed .ensures,
+      at-latch .latched .ensures,
+      at-pulses .pulsed .ensures,
     )
     (step-by-latched (a .room) (a .empty) (a .x) _ (a .self))
 
@@ -26,8 +41,11 @@ step-spec =
     (λ c κs. search needs)
     (λ c κs. search needs)
     (λ c κs. search needs)
+    returns
     (λ c κs. search needs)
     (λ c κs. search needs)
     (λ c κs. search needs)
     (λ c κs. search needs)
-    returns)
+    (λ c κs. search needs)
+    (λ c κs. search needs)
+    returns-2)

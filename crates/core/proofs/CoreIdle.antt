@@ -1,0 +1,80 @@
+-- A tick in which no sequencer moves is the step of the core, for `step`.
+--     settled-still           settled by moves that are none, the core is what such a tick leaves
+--     stays-idle-by-choices   where main is at Idle, nothing passed and there is no user sync, that is the step
+-- Assumes nothing.
+use Prim.Native.Nat.{ℕ, _^_, _<_}
+use mathlib.Core.Path.{_≡_, refl, sym, ap, _∙_}
+use mathlib.Core.Bool.{Bool, true, false, not, _&&_, _||_, true≢false}
+use mathlib.Core.List.{List}
+use lib.Dec.{eqb}
+use borrow.Author.Tests.{not-true, eqb-true}
+use Rattle.bits.proofs.TestLaws.{and-left, and-right}
+use Rattle.registers.specs.Csr as csr
+use Rattle.registers.specs.Csr.{syncHoldEndedIfOf, userSyncEndedIfOf}
+use Rattle.prescaler.specs.declared.Prescaled.{Prescaled}
+use Rattle.sync.specs.UserSync as user
+use Rattle.sync.specs.declared.user.UserSync.{UserSync}
+use Rattle.sync.specs.declared.user.UserStep.{UserStep}
+use Rattle.sequencer.specs.MainFields.{quiet}
+use Rattle.sequencer.specs.MemoryWord.{isOkWord}
+use Rattle.sequencer.specs.States.{isIdle}
+use Rattle.sequencer.specs.declared.main_sequencer.MainStep.{MainStep}
+use Rattle.scalers.proofs.ScalersLaws.{counted-nothing}
+use Rattle.trigger.specs.Effects.{csrAfterOf, syncAfterOf}
+use Rattle.trigger.specs.Latch.{wordAtOf, noLatch}
+use Rattle.trigger.specs.declared.lines.Lines.{Lines}
+use Rattle.trigger.specs.declared.lines.Inputs.{Inputs}
+use Rattle.trigger.specs.declared.latch.Latch.{Latch}
+use Rattle.core.specs.Core.{isReadyOf, mainStepOf, userStepOf, pulsedOf, latchIn, settledOf, stepOf}
+use Rattle.core.specs.StaysIdle.{staysIdleOf, stayedIdleOf}
+use Rattle.core.specs.declared.Core.{Core}
+use Rattle.core.proofs.CoreParts.{none-latched, idle-cycle-is-quiet}
+
+-- the user sync does nothing
+abbrev still : UserSync → UserStep
+still u = record { next = u; tag = false; ended = false }
+
+still-user : (wanted idle empty waiting : Bool) → (waiting || wanted) ≡ false
+    → user.stepOf wanted idle empty (record { waiting = waiting }) ≡ still (record { waiting = waiting })
+unfolding user.stepOf
+still-user wanted idle empty true h = absurd (true≢false h)
+still-user true idle empty false h = absurd (true≢false h)
+still-user false idle empty false h = refl
+
+module _ (c : Core) (low0 : c .scalers .scaler0 < 2 ^ 32) (low1 : c .scalers .scaler1 < 2 ^ 32) where
+  pub settled-still : (l : Lines) (p : Prescaled) → p .passed ≡ 0
+      → settledOf l p noLatch (quiet (c .main)) (still (c .user)) c ≡ stayedIdleOf l p c
+  unfolding settledOf stayedIdleOf csrAfterOf syncAfterOf syncHoldEndedIfOf userSyncEndedIfOf
+  settled-still l p none = rw (none, counted-nothing (c .scalers) low0 low1)
+
+  module _ (room empty : Bool) (x : Inputs) (memory : List ℕ) (stays : staysIdleOf (pulsedOf x c .passed) c ≡ true) where
+    rest : (eqb (pulsedOf x c .passed) 0 && not (c .user .waiting || csr.wantsUserSync (c .csr))) ≡ true
+    rest = and-right (isIdle (c .main .state)) _ stays
+
+    none : pulsedOf x c .passed ≡ 0
+    none = eqb-true _ 0 (and-left (eqb (pulsedOf x c .passed) 0) _ rest)
+
+    none-in-latch : latchIn x memory c ≡ noLatch
+    none-in-latch =
+        rw none (sym (none-latched (isReadyOf (x .lines) c) (isOkWord (wordAtOf memory 0))))
+
+    main-stays : (word : ℕ) → mainStepOf room empty (x .lines) noLatch word c ≡ quiet (c .main)
+    unfolding mainStepOf
+    main-stays word = idle-cycle-is-quiet room empty (x .lines) c (and-left (isIdle (c .main .state)) _ stays)
+
+    user-stays : userStepOf empty c ≡ still (c .user)
+    user-stays =
+        still-user (csr.wantsUserSync (c .csr)) (isIdle (c .main .state)) empty (c .user .waiting)
+        (not-true _ (and-right (eqb (pulsedOf x c .passed) 0) _ rest))
+
+    still-is-step : stayedIdleOf (x .lines) (pulsedOf x c) c ≡ stepOf room empty x memory c
+    unfolding stepOf
+    still-is-step =
+        sym (rw (none-in-latch, main-stays (wordAtOf memory (pulsedOf x c .passed)), user-stays)
+        (settled-still (x .lines) (pulsedOf x c) none))
+
+  pub stays-idle-by-choices : (room empty : Bool) (x : Inputs) (memory : List ℕ) (p : Prescaled) → p ≡ pulsedOf x c
+      → staysIdleOf (p .passed) c ≡ true → stayedIdleOf (x .lines) p c ≡ stepOf room empty x memory c
+  stays-idle-by-choices room empty x memory p e stays =
+      ap (λ (q : Prescaled). stayedIdleOf (x .lines) q c) e
+      ∙ still-is-step room empty x memory (ap (λ (q : Prescaled). staysIdleOf (q .passed) c) (sym e) ∙ stays)
