@@ -32,10 +32,10 @@ pub struct Traffic {
     turns: u64,
 }
 
-/// Pulses in one tick of 256, of 32, and in seven of eight.
-pub const QUIET: Traffic = Traffic { name: "quiet", pulses: 4, passes: 300, fails: 20, busy: 10, turns: 300 };
-pub const IDLE: Traffic = Traffic { name: "idle-heavy", pulses: 32, passes: 300, fails: 20, busy: 10, turns: 300 };
-pub const BUSY: Traffic = Traffic { name: "busy-heavy", pulses: 896, passes: 400, fails: 60, busy: 60, turns: 500 };
+/// A pulse in one tick of 256, in one of 32, and in seven of eight.
+pub const QUIET: Traffic = Traffic { name: "quiet", pulses: 4, passes: 512, fails: 20, busy: 10, turns: 512 };
+pub const IDLE: Traffic = Traffic { name: "idle-heavy", pulses: 32, passes: 512, fails: 20, busy: 10, turns: 512 };
+pub const BUSY: Traffic = Traffic { name: "busy-heavy", pulses: 896, passes: 512, fails: 60, busy: 60, turns: 512 };
 pub const KINDS: [Traffic; 3] = [QUIET, IDLE, BUSY];
 
 pub fn memory() -> Vec<u16> {
@@ -58,7 +58,7 @@ pub fn table(traffic: Traffic) -> Vec<u64> {
     let mut high = false;
     let mut table: Vec<u64> = (0..INPUTS)
         .map(|_| {
-            let triggers = if random.chance(traffic.pulses) { random.next() & random.next() & 0xFFF } else { 0 };
+            let triggers = if random.chance(traffic.pulses) { 1 << (random.next() % 12) } else { 0 };
             let mut lines = 1;
             for (bit, of) in
                 [(1, traffic.passes), (2, traffic.fails), (3, traffic.passes), (4, traffic.fails), (5, traffic.busy)]
