@@ -1,4 +1,5 @@
--- A tick in which no sequencer moves is the step of the core, for `step`.
+-- A tick without a trigger, for `pulsed`; a tick in which no sequencer moves is the step of the core, for `step`.
+--     pulsed-without-trigger  without a trigger the bank stays and no mask has a bit
 --     settled-still           settled by moves that are none, the core is what such a tick leaves
 --     stays-idle-by-choices   where main is at Idle, nothing passed and there is no user sync, that is the step
 -- Assumes nothing.
@@ -11,7 +12,10 @@ use borrow.Author.Tests.{not-true, eqb-true}
 use Rattle.bits.proofs.TestLaws.{and-left, and-right}
 use Rattle.registers.specs.Csr as csr
 use Rattle.registers.specs.Csr.{syncHoldEndedIfOf, userSyncEndedIfOf}
+use Rattle.registers.proofs.ControlLaws.{none-counted}
+use Rattle.prescaler.specs.Prescaler.{EightPlaces}
 use Rattle.prescaler.specs.declared.Prescaled.{Prescaled}
+use Rattle.prescaler.proofs.PrescalerChoices.{prescaled, nothing-by-choices}
 use Rattle.sync.specs.UserSync as user
 use Rattle.sync.specs.declared.user.UserSync.{UserSync}
 use Rattle.sync.specs.declared.user.UserStep.{UserStep}
@@ -20,15 +24,22 @@ use Rattle.sequencer.specs.MemoryWord.{isOkWord}
 use Rattle.sequencer.specs.States.{isIdle}
 use Rattle.sequencer.specs.declared.main_sequencer.MainStep.{MainStep}
 use Rattle.scalers.proofs.ScalersLaws.{counted-nothing}
+use Rattle.trigger.specs.Lines.{hasStrobe}
 use Rattle.trigger.specs.Effects.{csrAfterOf, syncAfterOf}
 use Rattle.trigger.specs.Latch.{wordAtOf, noLatch}
 use Rattle.trigger.specs.declared.lines.Lines.{Lines}
 use Rattle.trigger.specs.declared.lines.Inputs.{Inputs}
 use Rattle.trigger.specs.declared.latch.Latch.{Latch}
-use Rattle.core.specs.Core.{isReadyOf, mainStepOf, userStepOf, pulsedOf, latchIn, settledOf, stepOf}
+use Rattle.core.specs.Core.{isRunning, isReadyOf, mainStepOf, userStepOf, pulsedOf, latchIn, settledOf, stepOf}
 use Rattle.core.specs.StaysIdle.{staysIdleOf, stayedIdleOf}
 use Rattle.core.specs.declared.Core.{Core}
 use Rattle.core.proofs.CoreParts.{none-latched, idle-cycle-is-quiet}
+
+pub pulsed-without-trigger : (x : Inputs) (c : Core) → EightPlaces (c .prescalers) → x .triggers ≡ 0
+    → prescaled (c .prescalers) 0 0 0 ≡ pulsedOf x c
+unfolding pulsedOf
+pulsed-without-trigger x c eight none =
+    rw (none, none-counted (hasStrobe (x .lines)) (c .control)) (nothing-by-choices (isRunning c) (c .prescalers) eight)
 
 -- the user sync does nothing
 abbrev still : UserSync → UserStep

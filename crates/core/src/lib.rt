@@ -111,7 +111,7 @@ impl Core {
         }
     }
 
-    // [Pulses.1] [Pulses.2] the counted pulses of a tick through the prescalers
+    // [Pulses.1] [Pulses.2] the counted pulses of a tick through the prescalers; without a trigger there is none
     fn pulsed(self, x: Inputs) -> Prescaled
         ensures { λ r. ⌜ r ≡ pulsedOf x self ⌝ }
     {
@@ -119,6 +119,14 @@ impl Core {
         let control = self.control;
         let prescalers = self.prescalers;
         let lines = x.lines;
+        if x.triggers == 0 {
+            return Prescaled {
+                next: prescalers,
+                stopped: 0,
+                scaled: 0,
+                passed: 0,
+            };
+        }
         let runs = csr.is_go() | control.opens_prescales();
         prescalers.step(runs, control.counted(x.triggers, lines.has_strobe()))
     }

@@ -2,6 +2,7 @@
 --     allStopped, allPassed, counted   what the code builds in each case
 --     stopped-by-choices    a bank that does not run stays, and every pulse is stopped, for `step`
 --     passed-by-choices     with no pulse on inputs 1–8 a bank that runs stays, and every pulse passes, for `step`
+--     nothing-by-choices    with no pulse at all a bank stays, for the core
 --     counted-by-choices    eight counters and one mask are the step of a bank that runs, for `counted_down`
 --     scaled-by-digits      eight numbers make the mask of its scaled pulses, for `scaled_of`
 -- Assumes nothing.
@@ -26,7 +27,7 @@ use Rattle.prescaler.proofs.PrescalerLaws.{factAt, bank-stays, stopped-
 
 -- ---- what the code builds
 
-abbrev prescaled : Prescalers → (stopped scaled passed : ℕ) → Prescaled
+abbrev pub prescaled : Prescalers → (stopped scaled passed : ℕ) → Prescaled
 prescaled b s c p = record { next = b; stopped = s; scaled = c; passed = p }
 
 -- a bank that stays, and all pulses in one mask
@@ -114,6 +115,12 @@ module _ (pulses : ℕ) (b : Prescalers) (none : pulses % 2 ^ prescaledInputs �
       masks : (fact : FateFacts → Bool)
           → maskOf inputs (factAt fact true pulses b) ≡ maskOf inputs (λ i. fact (passedRow (bitAt pulses i)))
       masks = mask-by-rows true pulses b (λ i. passedRow (bitAt pulses i)) (λ i h. every-passes i)
+
+-- ---- a bank, running or not, with no pulse at all
+
+pub nothing-by-choices : (runs : Bool) (b : Prescalers) → EightPlaces b → prescaled b 0 0 0 ≡ stepOf runs 0 b
+nothing-by-choices true b eight = passed-by-choices 0 b refl eight
+nothing-by-choices false b eight = stopped-by-choices 0 b eight
 
 -- ---- a bank that runs, put together from its eight prescalers
 

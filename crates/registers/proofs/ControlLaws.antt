@@ -4,6 +4,7 @@
 --     run-is-enabled      the code's run of the enable bits has them
 --     counted-when-open   with no strobe asked for, or with it high, the enabled pulses count
 --     counted-when-shut   in strobe mode with the strobe low none counts
+--     none-counted        without a trigger none counts
 -- Assumes nothing.
 use Prim.Native.Nat.{ℕ, _/_, _%_, _^_, _<_}
 use mathlib.Core.Path.{_≡_, refl, sym, ap, _∙_}
@@ -11,7 +12,7 @@ use mathlib.Core.Bool.{Bool, true, false, not, _&&_, _||_}
 use lib.Dec.{ltb}
 use lib.Bits.{bitAnd}
 use Rattle.bits.specs.Bits.{bitAt, maskOf}
-use Rattle.bits.proofs.BitsLaws.{and-at, low-at, half-at, mask-at, mask-at-below, mask-same, mask-none, words-equal-by-bits}
+use Rattle.bits.proofs.BitsLaws.{zero-at, and-at, low-at, half-at, mask-at, mask-at-below, mask-same, mask-none, words-equal-by-bits}
 use Rattle.registers.specs.Control.{isStrobeMode, isEnabled, counts, countedOf, enabledOf}
 use Rattle.registers.specs.declared.control.Control.{Control}
 
@@ -69,3 +70,10 @@ counted-when-shut strobe triggers c h =
     (λ i k.
     shut-bit (bitAt triggers i) (isEnabled c i)
     ∙ ap (λ (t : Bool). bitAt triggers i && (isEnabled c i && t)) (sym h))
+
+pub none-counted : (strobe : Bool) (c : Control) → countedOf strobe 0 c ≡ 0
+unfolding countedOf
+none-counted strobe c =
+    mask-same 12 (counts c strobe 0) (λ i. false)
+    (λ i h. ap (λ (t : Bool). t && (isEnabled c i && (not (isStrobeMode c) || strobe))) (zero-at i))
+    ∙ mask-none 12
