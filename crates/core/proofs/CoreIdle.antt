@@ -1,5 +1,6 @@
 -- A tick without a trigger, for `pulsed`; a tick in which no sequencer moves is the step of the core, for `step`.
 --     pulsed-without-trigger  without a trigger the bank stays and no mask has a bit
+--     user-stays              where there is no user sync, its step is none
 --     settled-still           settled by moves that are none, the core is what such a tick leaves
 --     stays-idle-by-choices   where main is at Idle, nothing passed and there is no user sync, that is the step
 -- Assumes nothing.
@@ -17,8 +18,6 @@ use Rattle.prescaler.specs.Prescaler.{EightPlaces}
 use Rattle.prescaler.specs.declared.Prescaled.{Prescaled}
 use Rattle.prescaler.proofs.PrescalerChoices.{prescaled, nothing-by-choices}
 use Rattle.sync.specs.UserSync as user
-use Rattle.sync.specs.declared.user.UserSync.{UserSync}
-use Rattle.sync.specs.declared.user.UserStep.{UserStep}
 use Rattle.sequencer.specs.MainFields.{quiet}
 use Rattle.sequencer.specs.MemoryWord.{isOkWord}
 use Rattle.sequencer.specs.States.{isIdle}
@@ -31,7 +30,7 @@ use Rattle.trigger.specs.declared.lines.Lines.{Lines}
 use Rattle.trigger.specs.declared.lines.Inputs.{Inputs}
 use Rattle.trigger.specs.declared.latch.Latch.{Latch}
 use Rattle.core.specs.Core.{isRunning, isReadyOf, mainStepOf, userStepOf, pulsedOf, latchIn, settledOf, stepOf}
-use Rattle.core.specs.StaysIdle.{staysIdleOf, stayedIdleOf}
+use Rattle.core.specs.StaysIdle.{hasUserSyncOf, staysIdleOf, stayedIdleOf}
 use Rattle.core.specs.declared.Core.{Core}
 use Rattle.core.proofs.CoreParts.{none-latched, idle-cycle-is-quiet}
 
@@ -41,25 +40,30 @@ unfolding pulsedOf
 pulsed-without-trigger x c eight none =
     rw (none, none-counted (hasStrobe (x .lines)) (c .control)) (nothing-by-choices (isRunning c) (c .prescalers) eight)
 
--- the user sync does nothing
-abbrev still : UserSync → UserStep
-still u = record { next = u; tag = false; ended = false }
+-- ---- no user sync
 
-still-user : (wanted idle empty waiting : Bool) → (waiting || wanted) ≡ false
-    → user.stepOf wanted idle empty (record { waiting = waiting }) ≡ still (record { waiting = waiting })
+stays-by-choices : (wanted idle empty waiting : Bool) → (waiting || wanted) ≡ false
+    → user.moveOf wanted idle empty waiting ≡ user.stays
+stays-by-choices wanted idle empty true h = absurd (true≢false h)
+stays-by-choices true idle empty false h = absurd (true≢false h)
+stays-by-choices false idle empty false h = refl
+
+pub user-stays : (empty : Bool) (c : Core) → hasUserSyncOf c ≡ false → userStepOf empty c ≡ user.stepBy user.stays (c .user)
 unfolding user.stepOf
-still-user wanted idle empty true h = absurd (true≢false h)
-still-user true idle empty false h = absurd (true≢false h)
-still-user false idle empty false h = refl
+user-stays empty c none =
+    ap (λ (m : user.Move). user.stepBy m (c .user))
+    (stays-by-choices (csr.wantsUserSync (c .csr)) (isIdle (c .main .state)) empty (c .user .waiting) none)
+
+-- ---- no sequencer moves
 
 module _ (c : Core) (low0 : c .scalers .scaler0 < 2 ^ 32) (low1 : c .scalers .scaler1 < 2 ^ 32) where
   pub settled-still : (l : Lines) (p : Prescaled) → p .passed ≡ 0
-      → settledOf l p noLatch (quiet (c .main)) (still (c .user)) c ≡ stayedIdleOf l p c
+      → settledOf l p noLatch (quiet (c .main)) (user.stepBy user.stays (c .user)) c ≡ stayedIdleOf l p c
   unfolding settledOf stayedIdleOf csrAfterOf syncAfterOf syncHoldEndedIfOf userSyncEndedIfOf
   settled-still l p none = rw (none, counted-nothing (c .scalers) low0 low1)
 
   module _ (room empty : Bool) (x : Inputs) (memory : List ℕ) (stays : staysIdleOf (pulsedOf x c .passed) c ≡ true) where
-    rest : (eqb (pulsedOf x c .passed) 0 && not (c .user .waiting || csr.wantsUserSync (c .csr))) ≡ true
+    rest : (eqb (pulsedOf x c .passed) 0 && not (hasUserSyncOf c)) ≡ true
     rest = and-right (isIdle (c .main .state)) _ stays
 
     none : pulsedOf x c .passed ≡ 0
@@ -73,15 +77,13 @@ module _ (c : Core) (low0 : c .scalers .scaler0 < 2 ^ 32) (low1 : c .scalers .sc
     unfolding mainStepOf
     main-stays word = idle-cycle-is-quiet room empty (x .lines) c (and-left (isIdle (c .main .state)) _ stays)
 
-    user-stays : userStepOf empty c ≡ still (c .user)
-    user-stays =
-        still-user (csr.wantsUserSync (c .csr)) (isIdle (c .main .state)) empty (c .user .waiting)
-        (not-true _ (and-right (eqb (pulsedOf x c .passed) 0) _ rest))
+    no-sync : hasUserSyncOf c ≡ false
+    no-sync = not-true _ (and-right (eqb (pulsedOf x c .passed) 0) _ rest)
 
     still-is-step : stayedIdleOf (x .lines) (pulsedOf x c) c ≡ stepOf room empty x memory c
     unfolding stepOf
     still-is-step =
-        sym (rw (none-in-latch, main-stays (wordAtOf memory (pulsedOf x c .passed)), user-stays)
+        sym (rw (none-in-latch, main-stays (wordAtOf memory (pulsedOf x c .passed)), user-stays empty c no-sync)
         (settled-still (x .lines) (pulsedOf x c) none))
 
   pub stays-idle-by-choices : (room empty : Bool) (x : Inputs) (memory : List ℕ) (p : Prescaled) → p ≡ pulsedOf x c

@@ -1,6 +1,7 @@
 -- A tick in which no sequencer moves, and what of the core it changes: the step of Core, said shorter.
 --     document 01    "The tick"; document 02, N1, N2, N5
---     staysIdleOf    main is at Idle, nothing passed, and no user sync waits or is wanted
+--     hasUserSyncOf  a user sync waits or is wanted
+--     staysIdleOf    main is at Idle, nothing passed, and there is no user sync
 --     stayedIdleOf   the core after such a tick, with what it reports
 -- That it is the step of Core is proved (stays-idle-by-choices).
 -- Own rules of 01 used here: none. Decisions: F29. Left out: nothing.
@@ -24,10 +25,13 @@ use Rattle.core.specs.CoreFields.{withPrescalers, withCsr, withTest, wit
 use Rattle.core.specs.declared.Core.{Core}
 use Rattle.core.specs.declared.CoreStep.{CoreStep}
 
--- [Main.1] [Ready.3] [Usersync.1]
+-- [Usersync.1] [Usersync.2]
+abbrev pub hasUserSyncOf : Core → Bool
+hasUserSyncOf c = c .user .waiting || csr.wantsUserSync (c .csr)
+
+-- [Main.1] [Ready.3]
 abbrev pub staysIdleOf : (passed : ℕ) → Core → Bool
-staysIdleOf passed c =
-    isIdle (c .main .state) && (eqb passed 0 && not (c .user .waiting || csr.wantsUserSync (c .csr)))
+staysIdleOf passed c = isIdle (c .main .state) && (eqb passed 0 && not (hasUserSyncOf c))
 
 -- [Ready.6] [Blind.2] [State.3] [Test.6] the counters, status bit 16, what waits of TEST, the blind count, what STATE shows
 unfoldable pub stayedIdleOf : Lines → Prescaled → Core → CoreStep

@@ -2,8 +2,8 @@
 // the branches through two facts, every one empty and every one below its depth. The definitions are in specs/Core.antt; the
 // spoiled rule is in spoiled, a tick in which no sequencer moves in idle, the same core built anew in rebuilt.
 ghost use mathlib.Core.Path.{_≡_};
-ghost use Rattle.core.specs.Core.{freshOf, resetOf, pulsedOf, isOpenOf, isReadyOf, testsOf};
-ghost use Rattle.core.specs.Core.{cycleStepOf, mainStepOf, settledOf, latchedOf, stepOf, linesOutOf, isActiveOf};
+ghost use Rattle.core.specs.Core.{freshOf, resetOf, pulsedOf, isOpenOf, isReadyOf};
+ghost use Rattle.core.specs.Core.{settledOf, latchedOf, stepOf, linesOutOf, isActiveOf};
 use prescaler::Prescaled;
 use prescaler::Prescalers;
 use registers::control::Control;
@@ -11,8 +11,6 @@ use registers::csr::Csr;
 use scalers::Scalers;
 use sequencer::main_sequencer::MainSequencer;
 use sequencer::main_sequencer::MainStep;
-use sequencer::main_sequencer::Tests;
-use sequencer::main_sequencer::quiet_step;
 use sequencer::states::Outcome;
 use sync::counter::SyncCounter;
 use sync::user::UserStep;
@@ -33,6 +31,7 @@ use trigger::latest::Latest;
 use trigger::lines::Inputs;
 use trigger::lines::Lines;
 
+mod cycle;
 mod idle;
 mod rebuilt;
 mod spoiled;
@@ -153,31 +152,6 @@ impl Core {
         state.is_idle() & self.is_open(lines)
     }
 
-    // [Main.6] [Main.7] [Main.8] [Main.10] [Main.13] [Main.14] [Main.15] the tests of main, at the risen age
-    fn tests(self, lines: Lines, age: u32, room: bool, empty: bool) -> Tests
-        ensures { λ r. ⌜ r ≡ testsOf room empty age lines self ⌝ }
-    {
-        let csr = self.csr;
-        let timers = self.timers;
-        let t2 = timers.t2;
-        let t3 = timers.t3;
-        let sync = self.sync;
-        Tests {
-            fail2: lines.has_fail2(),
-            pass2: lines.has_pass2(),
-            fail3: lines.has_fail3(),
-            pass3: lines.has_pass3(),
-            late: timers.is_late_due(csr.uses_t1(), age),
-            due2: t2.is_reached(age),
-            due3: t3.is_reached(age),
-            front: timers.front_test(lines.has_front_busy(), csr.uses_t4(), age),
-            sync: sync.is_due(csr.enables_sync()),
-            room,
-            empty,
-            clear: timers.clear_count(csr.uses_t5()),
-        }
-    }
-
     // [Tick.3] [Test.6] [Test.7b] the core put together again
     fn settled(self, lines: Lines, p: Prescaled, latch: Latch, m: MainStep, u: UserStep) -> CoreStep
         ensures { λ r. ⌜ r ≡ settledOf lines p latch m u self ⌝ }
@@ -219,30 +193,6 @@ impl Core {
         Latched { latch, word }
     }
 
-    // [Main.1] the age rises first
-    fn cycle_step(self, lines: Lines, room: bool, empty: bool) -> MainStep
-        ensures { λ r. ⌜ r ≡ cycleStepOf room empty lines self ⌝ }
-    {
-        let main = self.main;
-        let aged = main.aged();
-        aged.step(self.tests(lines, aged.age, room, empty))
-    }
-
-    // [Ready.5] an accepted pattern starts a cycle; at Idle nothing else moves
-    fn main_step(self, lines: Lines, latch: Latch, word: u16, room: bool, empty: bool) -> MainStep
-        ensures { λ r. ⌜ r ≡ mainStepOf room empty lines latch word self ⌝ }
-    {
-        let main = self.main;
-        let state = main.state;
-        if latch.accepted != 0 {
-            return quiet_step(main.accepted(word));
-        }
-        if state.is_idle() {
-            return quiet_step(main);
-        }
-        self.cycle_step(lines, room, empty)
-    }
-
     // [Tick.2] a tick; room and empty are what the core sees of the branches
     pub fn step(self, x: Inputs, memory: &[u16], room: bool, empty: bool) -> CoreStep
         ensures { λ r. ⌜ r ≡ stepOf room empty x (now (memory .entry)) self ⌝ }
@@ -258,7 +208,11 @@ impl Core {
         }
         let l = self.latched(lines, memory, p.passed);
         let latch = l.latch;
-        let m = self.main_step(lines, latch, l.word, room, empty);
+        let c = self.main_step(lines, latch, l.word, room, empty);
+        let m = c.step;
+        if c.quiet & !self.has_user_sync() {
+            return self.settled_quietly(lines, p, latch, m.next);
+        }
         let u = user.step(csr.wants_user_sync(), state.is_idle(), empty);
         self.settled(lines, p, latch, m, u)
     }

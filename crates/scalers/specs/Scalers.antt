@@ -7,7 +7,7 @@
 -- Left out: nothing.
 -- Assumes nothing.
 use Prim.Native.Nat.{ℕ, _+_, _-_, _%_, _^_}
-use mathlib.Core.Bool.{Bool, not, _||_}
+use mathlib.Core.Bool.{Bool, not, _&&_, _||_}
 use lib.Dec.{eqb, ltb, leb}
 use Rattle.bits.specs.Notation.{if_then_else_, _▷_}
 use Rattle.bits.specs.Bits.{bitAt, oneIfOf}
@@ -42,6 +42,12 @@ resetOf s = s ▷ withScaler0 0 ▷ withScaler1 0
 -- [Assign.1] some pulse is in the mask
 abbrev pub isSome : (mask : ℕ) → Bool
 isSome mask = not (eqb mask 0)
+
+-- a tick that brings nothing; no code counts it (nothing-counts)
+abbrev pub isNoneOf : Signals → Bool
+isNoneOf x =
+    (eqb (x .passed) 0 && (eqb (x .rejected) 0 && eqb (x .accepted) 0))
+    && not (x .event || (x .failed2 || (x .failed3 || (x .late || x .sync))))
 
 -- [Assign.1] by the codes in their order; 50h–5Fh is what is left, since a write takes no other code
 -- DECISIONS C1: passed is past the prescaler, lost pulses too; what is latched is rejected or accepted

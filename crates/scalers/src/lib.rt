@@ -1,7 +1,7 @@
 // The two scalers and their latches (document 01, "Registers"; document 02, N4). The definitions are in specs/Scalers.antt.
 ghost use mathlib.Core.Path.{_≡_};
 ghost use Rattle.scalers.specs.Scalers.{freshOf, zeroedOf, latchedOf, latchOf, resetOf};
-ghost use Rattle.scalers.specs.Scalers.{isSome, countsOf, addOf, countedOf};
+ghost use Rattle.scalers.specs.Scalers.{isSome, isNoneOf, countsOf, addOf, countedOf};
 
 pub struct Scalers {
     // registers 17 and 18
@@ -44,6 +44,15 @@ fn add(t: bool, n: u32) -> u32
 }
 
 impl Signals {
+    // a tick that brings nothing, which no code counts
+    fn is_none(self) -> bool
+        ensures { λ r. ⌜ r ≡ isNoneOf self ⌝ }
+    {
+        let pulses = (self.passed == 0) & ((self.rejected == 0) & (self.accepted == 0));
+        let moves = self.event | (self.failed2 | (self.failed3 | (self.late | self.sync)));
+        pulses & !moves
+    }
+
     // [Assign.1] scaler 1 counts this tick
     pub fn counts(self, code: u32) -> bool
         ensures { λ r. ⌜ r ≡ countsOf self code ⌝ }
@@ -142,6 +151,9 @@ impl Scalers {
     pub fn counted(self, x: Signals) -> Scalers
         ensures { λ r. ⌜ r ≡ countedOf x self ⌝ }
     {
+        if x.is_none() {
+            return self;
+        }
         let assign = self.assign;
         let counts = x.counts(assign);
         Scalers {

@@ -1,9 +1,10 @@
 // The main sequencer (document 01, "The tick", Main): from an accepted pattern to a loaded word, or to a clear.
-// The definitions are in specs/MainSequencer.antt: a move for each sentence, and what each move changes.
+// The definitions are in specs/MainSequencer.antt: a move for each sentence, and what each move changes. The moves are in moves, a
+// function for each state; core calls the one that is due.
 ghost use mathlib.Core.Path.{_≡_};
 ghost use Rattle.sequencer.specs.MainFields.{quiet};
 ghost use Rattle.sequencer.specs.MainSequencer.{idleOf, agedOf, acceptedOf, isClearing};
-ghost use Rattle.sequencer.specs.MainSequencer.{isClassOfWait2, isWellFormedOf, stepOf};
+ghost use Rattle.sequencer.specs.MainSequencer.{isClassOfWait2, isWellFormedOf};
 use super::memory_word::accept_in;
 use super::memory_word::class_in;
 use super::memory_word::code_in;
@@ -168,22 +169,5 @@ impl MainSequencer {
         }
         next.raised = next.raised | MainSequencer::START2;
         next.with_state(State::Wait2)
-    }
-
-    // One tick of a sequencer whose age has risen.
-    pub fn step(self, t: Tests) -> MainStep
-        ensures { λ r. ⌜ r ≡ stepOf t self ⌝ }
-    {
-        let state = self.state;
-        match state {
-            State::Idle => quiet_step(self),
-            State::Delay => self.in_delay(t),
-            State::Wait2 => self.in_wait2(t),
-            State::Wait3 => self.in_wait3(t),
-            State::Front => self.in_front(t),
-            State::Space => self.in_space(t),
-            State::SyncHold => self.in_sync_hold(t),
-            State::Clear => self.in_clear(t),
-        }
     }
 }

@@ -1,9 +1,12 @@
 -- `core::Core::step` meets its contract: where no sequencer moves, what is left of a tick (`stays-idle-by-choices`); else each
--- part, given the record at the tick's start, settled (`step-by-latched`).
+-- part, given the record at the tick's start, settled (`step-by-latched`), where main's step is quiet and there is no user sync
+-- by the shorter way (`user-stays`).
 -- First written by tools/prove.py; `widths` are those of the scalers, the fifth field. Assumes nothing.
 use mathlib.Core.Path.{sym, _∙_}
+use Rattle.bits.proofs.TestLaws.{and-left, and-right}
 use Rattle.core.proofs.CoreParts.{step-by-latched}
-use Rattle.core.proofs.CoreIdle.{stays-idle-by-choices}
+use Rattle.core.proofs.CoreIdle.{stays-idle-by-choices, user-stays}
+use borrow.Author.Tests.{not-true}
 use borrow.Author.Needs.{needs}
 use Rattle.core.proofs.Core.step.Statement.{statement}
 use Rattle.core.proofs.Core.step.Tie as tie
@@ -20,7 +23,27 @@ returns c =
 
 returns-2 : tie.Need-returns-2
 returns-2 c =
-    let at-latch = c .before .before .before .before .before .before in
+    let at-main = c .before .before .before .before .before in
+    let at-latch = at-main .before .before in
+    let at-pulses = at-latch .before .before .before in
+    let a = at-pulses .before .before .before .before .before .before .args in
+    let taken = c .before .if2 .taken in
+    let is-quiet = at-main .main-step .ensures .1 (and-left _ _ taken) in
+    let no-sync = sym (c .before .before .before .has-user-sync .ensures) ∙ not-true _ (and-right (at-main .main-step .result .quiet) _ taken) in
+    rw (
+      c .settled-quietly .ensures,
+      ← is-quiet,
+      ← user-stays (a .empty) (a .self) no-sync,
+      at-main .main-step .ensures .0,
+      at-latch .latched .ensures,
+      at-pulses .pulsed .ensures,
+    )
+    (step-by-latched (a .room) (a .empty) (a .x) _ (a .self))
+
+returns-3 : tie.Need-returns-3
+returns-3 c =
+    let at-main = c .before .before .before .before .before .before .before .before in
+    let at-latch = at-main .before .before in
     let at-pulses = at-latch .before .before .before in
     let a = at-pulses .before .before .before .before .before .before .args in
     rw (
@@ -28,7 +51,7 @@ returns-2 c =
       c .before .step .ensures,
       c .before .before .is-idle .ensures,
       c .before .before .before .wants-user-sync .ensures,
-      c .before .before .before .before .main-step .ensures,
+      at-main .main-step .ensures .0,
       at-latch .latched .ensures,
       at-pulses .pulsed .ensures,
     )
@@ -46,6 +69,9 @@ step-spec =
     (λ c κs. search needs)
     (λ c κs. search needs)
     (λ c κs. search needs)
+    returns-2
     (λ c κs. search needs)
     (λ c κs. search needs)
-    returns-2)
+    (λ c κs. search needs)
+    (λ c κs. search needs)
+    returns-3)

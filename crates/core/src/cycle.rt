@@ -1,0 +1,109 @@
+// The step of main in a tick (document 01, "The tick", Main). Each state asks for the tests by itself, so that a compiler makes
+// none but those that the state reads. The definitions are in specs/Core.antt.
+ghost use mathlib.Core.Path.{_≡_};
+ghost use mathlib.Core.Bool.{true};
+ghost use Rattle.sequencer.specs.MainFields.{quiet};
+ghost use Rattle.core.specs.Core.{testsOf, cycleStepOf, mainStepOf};
+use crate::Core;
+use sequencer::main_sequencer::MainStep;
+use sequencer::main_sequencer::Tests;
+use sequencer::main_sequencer::quiet_step;
+use sequencer::states::State;
+use trigger::latch::Latch;
+use trigger::lines::Lines;
+
+// A step, and whether it is known to be quiet: main alone changes, and nothing is reported.
+pub struct Cycled {
+    pub step: MainStep,
+    pub quiet: bool,
+}
+
+impl Core {
+    // [Main.6] [Main.7] [Main.8] [Main.10] [Main.13] [Main.14] [Main.15] the tests of main, at the risen age
+    fn tests(self, lines: Lines, age: u32, room: bool, empty: bool) -> Tests
+        ensures { λ r. ⌜ r ≡ testsOf room empty age lines self ⌝ }
+    {
+        let csr = self.csr;
+        let timers = self.timers;
+        let t2 = timers.t2;
+        let t3 = timers.t3;
+        let sync = self.sync;
+        Tests {
+            fail2: lines.has_fail2(),
+            pass2: lines.has_pass2(),
+            fail3: lines.has_fail3(),
+            pass3: lines.has_pass3(),
+            late: timers.is_late_due(csr.uses_t1(), age),
+            due2: t2.is_reached(age),
+            due3: t3.is_reached(age),
+            front: timers.front_test(lines.has_front_busy(), csr.uses_t4(), age),
+            sync: sync.is_due(csr.enables_sync()),
+            room,
+            empty,
+            clear: timers.clear_count(csr.uses_t5()),
+        }
+    }
+
+    // [Main.1] the age rises first
+    fn cycle_step(self, lines: Lines, room: bool, empty: bool) -> Cycled
+        ensures { λ r. ⌜ r .step ≡ cycleStepOf room empty lines self ⌝ }
+        ensures { λ r. ⌜ (r .quiet ≡ true → r .step ≡ quiet (r .step .next)) ⌝ }
+    {
+        let main = self.main;
+        let state = main.state;
+        let aged = main.aged();
+        let age = aged.age;
+        match state {
+            State::Idle => Cycled {
+                step: quiet_step(aged),
+                quiet: true,
+            },
+            State::Delay => Cycled {
+                step: aged.in_delay(self.tests(lines, age, room, empty)),
+                quiet: true,
+            },
+            State::Wait2 => Cycled {
+                step: aged.in_wait2(self.tests(lines, age, room, empty)),
+                quiet: !lines.has_fail2(),
+            },
+            State::Wait3 => Cycled {
+                step: aged.in_wait3(self.tests(lines, age, room, empty)),
+                quiet: !lines.has_fail3(),
+            },
+            State::Front => {
+                let t = self.tests(lines, age, room, empty);
+                Cycled {
+                    step: aged.in_front(t),
+                    quiet: !t.front,
+                }
+            }
+            State::Space => Cycled {
+                step: aged.in_space(self.tests(lines, age, room, empty)),
+                quiet: true,
+            },
+            State::SyncHold => Cycled {
+                step: aged.in_sync_hold(self.tests(lines, age, room, empty)),
+                quiet: !empty,
+            },
+            State::Clear => Cycled {
+                step: aged.in_clear(self.tests(lines, age, room, empty)),
+                quiet: true,
+            },
+        }
+    }
+
+    // [Ready.5] an accepted pattern starts a cycle
+    pub fn main_step(self, lines: Lines, latch: Latch, word: u16, room: bool, empty: bool) -> Cycled
+        ensures { λ r. ⌜ r .step ≡ mainStepOf room empty lines latch word self ⌝ }
+        ensures { λ r. ⌜ (r .quiet ≡ true → r .step ≡ quiet (r .step .next)) ⌝ }
+    {
+        let main = self.main;
+        if latch.accepted != 0 {
+            return Cycled {
+                step: quiet_step(main.accepted(word)),
+                quiet: true,
+            };
+        }
+        self.cycle_step(lines, room, empty)
+    }
+}
