@@ -105,14 +105,16 @@ fn put(out: &mut [u64], place: usize, n: u64) {
     }
 }
 
+fn put_four(out: &mut [u64], place: usize, a: u64, b: u64, c: u64, d: u64) {
+    let first = place % 4294967296;
+    put(out, first, a);
+    put(out, first + 1, b);
+    put(out, first + 2, c);
+    put(out, first + 3, d);
+}
+
 pub fn put_eight(out: &mut [u64], place: usize, n: [u64; 8]) {
     let first = place % 4294967296;
-    put(out, first, n[0]);
-    put(out, first + 1, n[1]);
-    put(out, first + 2, n[2]);
-    put(out, first + 3, n[3]);
-    put(out, first + 4, n[4]);
-    put(out, first + 5, n[5]);
-    put(out, first + 6, n[6]);
-    put(out, first + 7, n[7]);
+    put_four(out, first, n[0], n[1], n[2], n[3]);
+    put_four(out, first + 4, n[4], n[5], n[6], n[7]);
 }
