@@ -10,7 +10,8 @@ fn main() {
     println!("cargo:rerun-if-changed=src/machine");
     println!("cargo:rerun-if-changed=src/account.rs");
     println!("cargo:rerun-if-changed=src/bin/compare/fault_list.rs");
-    let machine = ["call", "tick", "request", "state", "kept", "byte", "latch", "test", "force", "held", "mode"];
+    let machine =
+        ["call", "tick", "request", "state", "kept", "byte", "latch", "test", "force", "held", "mode", "speed"];
     for part in machine.into_iter().chain(["account"]) {
         println!("cargo:rerun-if-changed=src/bin/compare/{part}_faults.rs");
     }

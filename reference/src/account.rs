@@ -212,7 +212,7 @@ impl Account {
             }
             // [Account.15] [Account.16]
             let rest = self.words_loaded.strip_prefix(finished.as_slice());
-            if rest != Some(branch.held()) {
+            if rest != Some(branch.held().as_slice()) {
                 return Err(format!(
                     "branch {number}: {} words finished, then {:02X?} held, are not the {} loaded",
                     finished.len(),

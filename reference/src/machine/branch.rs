@@ -28,31 +28,30 @@ pub enum BranchState {
     Drop,
 }
 
-/// One branch: its sequencer and its queue, whose first word lies in place 0.
+/// One branch: its queue and its sequencer.
 #[derive(Clone, Debug, PartialEq, Eq, Hash)]
 pub struct Branch {
-    pub state: BranchState,
-    /// The queue, first to last; places from `used` on are 0.
-    pub words: [u8; PLACES],
+    /// A byte for each place, the first word in the lowest; places from `used` on are 0.
+    pub queue: u64,
     /// How many places hold a word.
     pub used: u8,
+    pub state: BranchState,
 }
 
 impl Branch {
     pub const fn fresh() -> Self {
-        Branch { state: BranchState::Rest, words: [0; PLACES], used: 0 }
+        Branch { queue: 0, used: 0, state: BranchState::Rest }
     }
 
     /// The words held, first to last. [Account.16]
-    pub fn held(&self) -> &[u8] {
-        &self.words[..usize::from(self.used).min(PLACES)]
+    pub fn held(&self) -> Vec<u8> {
+        self.queue.to_le_bytes().into_iter().take(self.used.into()).collect()
     }
 
-    /// The branch's clauses of the spoiled rule; `most` is 7 or 8. No early way out: the test almost never finds
-    /// anything, and without branches it is quicker. [Spoiled.1d] [Spoiled.1f] [Spoiled.1g]
+    /// The branch's clauses of the spoiled rule; `most` is 7 or 8. [Spoiled.1d] [Spoiled.1f] [Spoiled.1g]
     #[inline]
     pub(super) fn is_spoiled(&self, most: u8) -> bool {
-        let stray = u64::from_le_bytes(self.words) & STRAY_BITS[usize::from(self.used & 0xF)];
+        let stray = self.queue & STRAY_BITS[usize::from(self.used & 0xF)];
         let empty_strobe = (self.used == 0) & (self.state == BranchState::Strobe);
         (stray != 0) | (self.used > most) | empty_strobe
     }
@@ -63,33 +62,30 @@ impl Branch {
         (self.used == 0) & (self.state == BranchState::Rest)
     }
 
-    /// One move, then the load behind what it left. Gives the finished word. [Branches.1]–[Branches.5]
+    /// One move, then the load behind what it left. Gives the finished word. With no controller enabled both tests of
+    /// the acknowledges are true. [Branches.1]–[Branches.5]
     #[inline]
     pub(super) fn step(&mut self, enabled: u8, acknowledges: u8, load: Option<u8>) -> Option<u8> {
         let high = acknowledges & enabled;
-        let mut finished = None;
-        match self.state {
-            BranchState::Rest => {
-                if self.used > 0 {
-                    self.state = BranchState::Strobe;
-                }
-            }
-            BranchState::Strobe => {
-                if high == enabled {
-                    finished = Some(self.words[0]);
-                    self.words = (u64::from_le_bytes(self.words) >> 8).to_le_bytes();
-                    self.used -= 1;
-                    self.state = BranchState::Drop;
-                }
-            }
-            BranchState::Drop => {
-                if high == 0 {
-                    self.state = BranchState::Rest;
-                }
-            }
-        }
+        let shows = (self.state == BranchState::Rest) & (self.used > 0); // [Branches.1]
+        let finishes = (self.state == BranchState::Strobe) & (high == enabled); // [Branches.2]
+        let rests = (self.state == BranchState::Drop) & (high == 0); // [Branches.3]
+
+        let finished = finishes.then_some(self.queue as u8); // the lowest place
+        self.queue = if finishes { self.queue >> 8 } else { self.queue };
+        self.used -= u8::from(finishes);
+        self.state = if shows {
+            BranchState::Strobe
+        } else if finishes {
+            BranchState::Drop
+        } else if rests {
+            BranchState::Rest
+        } else {
+            self.state
+        };
         if let Some(word) = load {
-            self.words[usize::from(self.used)] = word;
+            // [Branches.5] Behind the words that are left: at most 7, or the record is spoiled.
+            self.queue |= u64::from(word) << (8 * self.used);
             self.used += 1;
         }
         finished
@@ -98,9 +94,6 @@ impl Branch {
     /// The word at the strobe, if the branch stands there. [Branches.1]
     #[inline]
     pub(super) fn shown(&self) -> Option<u8> {
-        match self.state {
-            BranchState::Strobe => Some(self.words[0]),
-            BranchState::Rest | BranchState::Drop => None,
-        }
+        (self.state == BranchState::Strobe).then_some(self.queue as u8)
     }
 }

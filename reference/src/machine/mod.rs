@@ -1,15 +1,16 @@
 //! The supervisor's record and its calls.
 //!
-//! The record is changed in place. What a tick tests is the record at its start [Tick.2], so `tick` takes copies of
-//! the few values that one move changes and another one tests (CSR, main's state, the user sync's wait, "all empty",
-//! whether the module is blind), and moves the branches last.
+//! The record is changed in place. What a tick tests is the record at its start [Tick.2], so the moves stand in an order
+//! in which none changes what a later one tests, but for the CSR and main's state, of which the tick takes copies.
 
 mod branch;
 mod bytes;
 mod cycle;
 mod memory;
 mod names;
+mod pulses;
 mod registers;
+mod spoiled;
 mod state;
 mod test_mode;
 mod tick;
@@ -17,8 +18,6 @@ mod tick;
 pub use branch::{Branch, BranchState};
 pub use names::*;
 pub use tick::{Answer, Outcome};
-
-use registers::is_listed;
 
 /// A timer's count of 40 ns: two ticks each. [Widths.2] [Widths.3]
 #[derive(Clone, Copy, Debug, PartialEq, Eq, Hash)]
@@ -64,47 +63,47 @@ pub enum MainState {
 /// - `latches`: each holds what a scaler once did [Bytes.5a];
 /// - the states of main and branches: enums, so only the listed states exist;
 /// - `accept_pattern`: all eight bits are in use [Memory.2];
-/// - `late`, the raised lines and `user_sync_waiting`: plain yes or no, with no clause about them alone;
+/// - `raised`: no clause speaks of it, and bits that are no line of main's show nowhere;
+/// - `late` and `user_sync_waiting`: plain yes or no, with no clause about them alone;
 /// - `kept_lines`, `latched` and `kept_acknowledges`: no clause speaks of them, odd lines included [State.3];
 /// - `test`: no clause speaks of it, odd bits included [Open: T9].
+///
+/// Numbers that the spoiled rule tests together stand together.
 #[derive(Clone, Debug, PartialEq, Eq, Hash)]
 pub struct Supervisor {
-    pub csr: u32,
-    pub control: u32,
     pub factors: [u32; 8],
     /// What each prescaler still has to count down, above its factor after some writes without BYTE(3). Reads give the
     /// factor, not this. [Declines.3b] [Bytes.4a]
     pub counters: [u32; 8],
-    pub roc_enable: u32,
+    pub csr: u32,
+    pub control: u32,
     pub sync_interval: u32,
+    pub t5: Count20,
     pub t1: Count40,
     pub t2: Count40,
     pub t3: Count40,
     pub t4: Count40,
-    pub t5: Count20,
-    pub scalers: [u32; 2],
-    /// What each scaler held when it was last read with BYTE(3). [Bytes.5a] [Bytes.5b]
-    pub latches: [u32; 2],
-    pub assign: u32,
-
-    pub main: MainState,
+    pub sync_count: u32,
     pub age: u32,
     /// Document 01's c: ticks for which the clear line stays high.
     pub clear_count: u32,
+    /// Ticks to come that are not ready after a rejected pattern. [Blind.2] [Blind.3]
+    pub blind: u32,
+    pub assign: u32,
+    pub roc_enable: u32,
+    pub scalers: [u32; 2],
+    /// What each scaler held when it was last read with BYTE(3). [Bytes.5a] [Bytes.5b]
+    pub latches: [u32; 2],
+
+    pub main: MainState,
     pub class: u8,
     pub code: u8,
     pub accept_pattern: u8,
     pub late: bool,
-    pub level_1_ok: bool,
-    pub level_2_start: bool,
-    pub level_2_accept: bool,
-    pub level_3_start: bool,
-    pub level_3_accept: bool,
-
-    pub sync_count: u32,
+    /// The lines that main raised, see [`raised`].
+    pub raised: u8,
     pub user_sync_waiting: bool,
-    /// Ticks to come that are not ready after a rejected pattern. [Blind.2] [Blind.3]
-    pub blind: u32,
+
     /// The lines in force in the latest tick that ran, for STATE. [State.3] [Test.7b]
     pub kept_lines: u32,
     /// Whether that tick latched a pattern, rejected or accepted. [State.3] [State.7]
@@ -156,83 +155,36 @@ impl Supervisor {
     /// The record of power-up: all zero, all idle. [Registers.4] [Declines.6]
     pub const fn fresh() -> Self {
         Supervisor {
-            csr: 0,
-            control: 0,
             factors: [0; 8],
             counters: [0; 8],
-            roc_enable: 0,
+            csr: 0,
+            control: 0,
             sync_interval: 0,
+            t5: Count20(0),
             t1: Count40(0),
             t2: Count40(0),
             t3: Count40(0),
             t4: Count40(0),
-            t5: Count20(0),
-            scalers: [0; 2],
-            latches: [0; 2],
-            assign: 0,
-            main: MainState::Idle,
+            sync_count: 0,
             age: 0,
             clear_count: 0,
+            blind: 0,
+            assign: 0,
+            roc_enable: 0,
+            scalers: [0; 2],
+            latches: [0; 2],
+            main: MainState::Idle,
             class: 0,
             code: 0,
             accept_pattern: 0,
             late: false,
-            level_1_ok: false,
-            level_2_start: false,
-            level_2_accept: false,
-            level_3_start: false,
-            level_3_accept: false,
-            sync_count: 0,
+            raised: 0,
             user_sync_waiting: false,
-            blind: 0,
             kept_lines: 0,
             latched: false,
             kept_acknowledges: 0,
             test: 0,
             branches: [Branch::fresh(), Branch::fresh(), Branch::fresh(), Branch::fresh()],
-        }
-    }
-
-    /// The spoiled rule, made at every call. [Spoiled.1a]–[Spoiled.1k] [Blind.3] [Bytes.9]
-    #[inline]
-    pub fn is_spoiled(&self) -> bool {
-        // No early way out here either. Register by register in the record's order, so that the compiler can take
-        // several at once. A counter has the width of its factor. [Spoiled.1a] [Spoiled.1b] [Bytes.9]
-        let mut stray = (self.csr & !csr::STORED) | (self.control & !control::BITS);
-        for (factor, counter) in self.factors[..4].iter().zip(&self.counters[..4]) {
-            stray |= (factor & !Self::WIDE_FACTOR) | (counter & !Self::WIDE_FACTOR);
-        }
-        for (factor, counter) in self.factors[4..].iter().zip(&self.counters[4..]) {
-            stray |= (factor & !Self::NARROW_FACTOR) | (counter & !Self::NARROW_FACTOR);
-        }
-        stray |= (self.sync_interval & !0xFFFF)
-            | (self.t1.0 & !0xFFFF)
-            | (self.t2.0 & !0xFFFF)
-            | (self.t3.0 & !0xFFFF)
-            | (self.t4.0 & !0xFFFF)
-            | (self.t5.0 & !0xFF)
-            | u32::from(self.code & !word::CODE);
-        let over = (self.sync_count > Self::SYNC_COUNT_LIMIT) // [Spoiled.1h]
-            | (self.age > Self::AGE_LIMIT) // [Spoiled.1i]
-            | (self.clear_count > Self::CLEAR_COUNT_LIMIT) // [Spoiled.1j]
-            | (self.blind > Self::BLIND_TICKS); // [Blind.3]
-
-        // [Spoiled.1c], [Spoiled.1k]
-        let main = ((self.main == MainState::Wait2) & !matches!(self.class, 2 | 3))
-            | (self.user_sync_waiting & (self.main != MainState::Idle));
-        // [Spoiled.1d], [Spoiled.1f], [Spoiled.1g]
-        let may_be_full = self.user_sync_waiting | matches!(self.main, MainState::Space | MainState::SyncHold);
-        let most = Self::DEPTH - u8::from(!may_be_full);
-        let branches = self.branches.iter().fold(false, |any, branch| any | branch.is_spoiled(most));
-        (stray != 0) | over | !is_listed(self.assign) | main | branches
-    }
-
-    /// The decline that register and memory calls test first. [Declines.2a] [Declines.3a] [Declines.4a]
-    fn not_spoiled(&self) -> Result<(), u8> {
-        if self.is_spoiled() {
-            Err(decline::SPOILED)
-        } else {
-            Ok(())
         }
     }
 
@@ -243,7 +195,19 @@ impl Supervisor {
             || self.main != MainState::Idle
             || self.user_sync_waiting
             || sync_wanted(self.csr)
-            || !self.branches.iter().all(Branch::is_quiet)
+            || !self.all_quiet()
+    }
+
+    /// Every branch at Rest without a word. [Active.1]
+    #[inline]
+    fn all_quiet(&self) -> bool {
+        self.branches.iter().fold(true, |all, branch| all & branch.is_quiet())
+    }
+
+    /// No branch holds a word. [Main.14] [Usersync.2]
+    #[inline]
+    fn all_empty(&self) -> bool {
+        self.branches.iter().fold(0, |any, branch| any | branch.used) == 0
     }
 
     /// Whether a branch has room for one more event, under the lock bits of this CSR. [Main.13]

@@ -1,4 +1,5 @@
-//! The numbers and bits that have names: declines, registers, test bits, lines, words of a queue, and the sizes.
+//! The numbers and bits that have names: declines, registers, assign codes, test bits, lines, words of a queue, and the
+//! sizes.
 
 /// The numbers with which a call is declined. [Declines.1a]
 pub mod decline {
@@ -84,6 +85,14 @@ pub mod control {
     }
 }
 
+/// Codes of scaler 1's assignment: the first of each sixteen that count the same. [Assign.1]
+pub mod assign {
+    pub const LEVEL_2_FAIL: u32 = 0x10;
+    pub const LEVEL_3_FAIL: u32 = 0x20;
+    pub const LATE_FAIL: u32 = 0x30;
+    pub const SYNC: u32 = 0x50;
+}
+
 /// Bits of TEST, as section 3.10 of source document 001 has them. [Test.1]
 pub mod test {
     /// Pulses every enabled input, with the strobe. [Test.3]
@@ -116,13 +125,20 @@ pub mod line {
     pub const ALL: u32 = 0x7F;
 }
 
-/// The lines that an answer gives out; bits 8–15 are the accept pattern. [Answer.1]
+/// The lines that main raises, where the answer has them. [Answer.1] [Main.17]
+pub mod raised {
+    pub const LEVEL_1_OK: u8 = 1 << 0;
+    pub const LEVEL_2_START: u8 = 1 << 1;
+    pub const LEVEL_2_ACCEPT: u8 = 1 << 2;
+    pub const LEVEL_3_START: u8 = 1 << 3;
+    pub const LEVEL_3_ACCEPT: u8 = 1 << 4;
+    pub const ALL: u8 = 0x1F;
+    /// What Delay waits for. [Main.7]
+    pub const BOTH_ACCEPTS: u8 = LEVEL_2_ACCEPT | LEVEL_3_ACCEPT;
+}
+
+/// The other lines that an answer gives out; bits 0–4 are main's raised lines, bits 8–15 the accept pattern. [Answer.1]
 pub mod line_out {
-    pub const LEVEL_1_OK: u16 = 1 << 0;
-    pub const LEVEL_2_START: u16 = 1 << 1;
-    pub const LEVEL_2_ACCEPT: u16 = 1 << 2;
-    pub const LEVEL_3_START: u16 = 1 << 3;
-    pub const LEVEL_3_ACCEPT: u16 = 1 << 4;
     pub const CLEAR: u16 = 1 << 5;
     pub const LEVEL_1_HARDWARE: u16 = 1 << 6;
     pub const ACCEPT_PATTERN_SHIFT: u32 = 8;

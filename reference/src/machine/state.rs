@@ -1,7 +1,7 @@
 //! Register 20, STATE: the 32 bits of section 3.11 of source document 001, under the names they have there. [State.1]
 //! [State.2]
 
-use super::{is_ready, line, BranchState, MainState, Supervisor, BRANCHES};
+use super::{is_ready, line, raised, BranchState, MainState, Supervisor, BRANCHES};
 
 impl Supervisor {
     /// STATE as the record stands at the read, with what is kept of the latest tick that ran. [State.3] [State.8a]
@@ -15,18 +15,19 @@ impl Supervisor {
     /// Bits 0–19.
     fn module_bits(&self) -> [bool; 20] {
         let kept = |line: u32| self.kept_lines & line != 0;
+        let raised = |line: u8| self.raised & line != 0;
         let blind = self.blind > 0;
         let ready = is_ready(self.csr, self.main, self.user_sync_waiting, blind, self.kept_lines);
         [
-            self.level_1_ok,                                            // 0 LEVEL 1 ACCEPT [State.7]
-            self.level_2_start,                                         // 1 LEVEL 2 START [State.2]
+            raised(raised::LEVEL_1_OK),                                 // 0 LEVEL 1 ACCEPT [State.7]
+            raised(raised::LEVEL_2_START),                              // 1 LEVEL 2 START [State.2]
             kept(line::LEVEL_2_PASS),                                   // 2 LEVEL 2 PASS [State.6]
             kept(line::LEVEL_2_FAIL),                                   // 3 LEVEL 2 FAIL [State.6]
-            self.level_2_accept,                                        // 4 LEVEL 2 ACCEPT [State.2]
-            self.level_3_start,                                         // 5 LEVEL 3 START [State.2]
+            raised(raised::LEVEL_2_ACCEPT),                             // 4 LEVEL 2 ACCEPT [State.2]
+            raised(raised::LEVEL_3_START),                              // 5 LEVEL 3 START [State.2]
             kept(line::LEVEL_3_PASS),                                   // 6 LEVEL 3 PASS [State.6]
             kept(line::LEVEL_3_FAIL),                                   // 7 LEVEL 3 FAIL [State.6]
-            self.level_3_accept,                                        // 8 LEVEL 3 ACCEPT [State.2]
+            raised(raised::LEVEL_3_ACCEPT),                             // 8 LEVEL 3 ACCEPT [State.2]
             self.clear_count > 0,                                       // 9 CLEAR [State.2] [Main.16]
             kept(line::FRONT_BUSY),                                     // 10 FRONT END BUSY [State.3]
             kept(line::INHIBIT),                                        // 11 EXTERNAL INHIBIT [State.3]
@@ -36,7 +37,7 @@ impl Supervisor {
             ready,                                                      // 15 READY [State.4a]
             self.is_active(),                                           // 16 ACTIVE [State.2] [Active.1]
             self.main == MainState::SyncHold || self.user_sync_waiting, // 17 SYNCHRONIZATION [State.5]
-            self.branches.iter().all(|branch| branch.used == 0),        // 18 BUFFERS EMPTY [State.2]
+            self.all_empty(),                                           // 18 BUFFERS EMPTY [State.2]
             (0..BRANCHES).any(|b| !self.is_below_depth(self.csr, b)),   // 19 BUFFER FULL [State.7]
         ]
     }

@@ -179,7 +179,7 @@ fn check_tells_a_wrong_record() {
         account.check(&record).unwrap_err()
     };
     assert!(wrong(&|r| r.main = MainState::Idle).contains("main at Idle"));
-    assert!(wrong(&|r| r.branches[1].words[0] = 6).contains("branch 2"));
+    assert!(wrong(&|r| set_word(&mut r.branches[1], 0, 6)).contains("branch 2"));
     assert!(wrong(&|r| r.branches[2] = Branch::fresh()).contains("branch 3"));
     assert!(wrong(&|r| r.branches[3].used = 9).contains("holds 9 words")); // at most eight held
 }

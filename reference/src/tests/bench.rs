@@ -64,7 +64,7 @@ fn p5_pass_with_fail_clears() {
     let answer = unit.tick(0, line::LEVEL_2_PASS | line::LEVEL_2_FAIL, 0);
     assert_eq!(answer.outcome, Outcome::Cleared);
     assert_eq!(unit.record.main, MainState::Clear);
-    assert_eq!(answer.lines & line_out::LEVEL_2_ACCEPT, 0);
+    assert_eq!(answer.lines & u16::from(raised::LEVEL_2_ACCEPT), 0);
 }
 
 #[test]

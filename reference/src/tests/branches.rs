@@ -54,7 +54,7 @@ fn words_leave_first_in_first_out() {
         assert_eq!(unit.tick(place, 0, 0).accepted, place as u16);
         unit.quiet_ticks(9);
     }
-    assert_eq!(unit.record.branches[0].words, [1, 2, 3, 4, 5, 6, 7, 8]);
+    assert_eq!(words(&unit.record.branches[0]), [1, 2, 3, 4, 5, 6, 7, 8]);
     let mut finished = Vec::new();
     for _ in 0..8 {
         assert_eq!(unit.tick(0, 0, 1).shown[0], None);
@@ -102,7 +102,7 @@ fn queue_full_in_the_midst_of_a_user_sync() {
     }
     unit.write(Supervisor::CSR, csr::FORCE_SYNC | csr::ENABLE_SYNC);
     assert_eq!(unit.quiet().outcome, Outcome::Tag(0x10));
-    assert_eq!(unit.record.branches[0].words, [5, 5, 5, 5, 5, 5, 5, 0x10]);
+    assert_eq!(words(&unit.record.branches[0]), [5, 5, 5, 5, 5, 5, 5, 0x10]);
     assert_eq!(unit.used()[0], 8);
     unit.quiet_ticks(20);
     assert!(unit.record.user_sync_waiting);

@@ -13,6 +13,7 @@ mod csr_write;
 mod cycle;
 mod declines;
 mod declines_memory;
+mod four_branches;
 mod front_space_clear;
 mod held_clock;
 mod latches;
@@ -51,6 +52,17 @@ const fn class_3(code: u16, pattern: u16) -> u16 {
 
 const NONE: [Option<u8>; 4] = [None; 4];
 const ALL_ENABLED: u32 = 0x1FFE;
+
+/// A branch's eight places, first to last.
+fn words(branch: &Branch) -> [u8; 8] {
+    std::array::from_fn(|place| (branch.queue >> (8 * place)) as u8)
+}
+
+/// Puts a word into one place, whatever the others hold.
+fn set_word(branch: &mut Branch, place: usize, word: u8) {
+    branch.queue &= !(0xFF << (8 * place));
+    branch.queue |= u64::from(word) << (8 * place);
+}
 
 /// A record with its memory, whose calls here must not be declined.
 struct Unit {

@@ -23,7 +23,7 @@ pub fn is_spoiled(r: &Supervisor) -> bool {
             if r.main == MainState::Space || r.main == MainState::SyncHold || r.user_sync_waiting { 8 } else { 7 };
         (branch.state == BranchState::Strobe && used == 0) // [Spoiled.1d]
             || used > room // [Spoiled.1f]
-            || (0..8).any(|place| if place < used { branch.words[place] > 0x3F } else { branch.words[place] != 0 })
+            || (0..8).any(|place| if place < used { words(branch)[place] > 0x3F } else { words(branch)[place] != 0 })
     });
 
     registers
@@ -86,10 +86,10 @@ pub fn run(start: &Supervisor, memory: &[u16], triggers: u32, lines: u32, acknow
                 next.class = class as u8;
                 next.code = (word / 16 % 16) as u8;
                 next.accept_pattern = (word / 256) as u8;
-                next.level_1_ok = true;
+                next.raised |= 1 << 0;
                 next.main = if class == 1 { MainState::Delay } else { MainState::Wait2 };
                 if class != 1 {
-                    next.level_2_start = true;
+                    next.raised |= 1 << 1;
                 }
             }
             _ => rejected = passed,
@@ -137,26 +137,26 @@ pub fn run(start: &Supervisor, memory: &[u16], triggers: u32, lines: u32, acknow
                 next.clear_count = if csr(8) && start.t5.0 > 1 { start.t5.0 } else { 1 };
             }
         } else if pass && start.main == MainState::Wait2 {
-            next.level_2_accept = true;
+            next.raised |= 1 << 2;
             if start.class == 2 {
                 next.main = MainState::Delay;
             } else {
-                next.level_3_start = true;
+                next.raised |= 1 << 3;
                 next.main = MainState::Wait3;
             }
         } else if pass {
-            next.level_3_accept = true;
+            next.raised |= 1 << 4;
             next.main = MainState::Front;
         }
         match start.main {
             MainState::Delay => {
                 if age >= 2 * start.t2.0 {
-                    next.level_2_accept = true;
+                    next.raised |= 1 << 2;
                 }
                 if age >= 2 * start.t3.0 {
-                    next.level_3_accept = true;
+                    next.raised |= 1 << 4;
                 }
-                if next.level_2_accept && next.level_3_accept {
+                if is_up(&next, 2) && is_up(&next, 4) {
                     next.main = MainState::Front;
                 }
             }
@@ -195,8 +195,7 @@ pub fn run(start: &Supervisor, memory: &[u16], triggers: u32, lines: u32, acknow
     if to_idle {
         next.main = MainState::Idle;
         (next.age, next.clear_count, next.class, next.code, next.accept_pattern, next.late) = (0, 0, 0, 0, 0, false);
-        (next.level_1_ok, next.level_2_start, next.level_2_accept) = (false, false, false);
-        (next.level_3_start, next.level_3_accept) = (false, false);
+        next.raised = 0;
     }
 
     // User sync. [Usersync.1] [Usersync.2]
@@ -218,7 +217,7 @@ pub fn run(start: &Supervisor, memory: &[u16], triggers: u32, lines: u32, acknow
         let branch = &start.branches[b];
         let controllers = (8 * b as u32)..(8 * b as u32 + 8);
         let mut enabled = controllers.filter(|&r| bit(start.roc_enable, r));
-        let mut queue: Vec<u8> = branch.words[..usize::from(branch.used)].to_vec();
+        let mut queue: Vec<u8> = words(branch)[..usize::from(branch.used)].to_vec();
         match branch.state {
             BranchState::Rest if !queue.is_empty() => next.branches[b].state = BranchState::Strobe,
             BranchState::Strobe if enabled.clone().all(|r| bit(acknowledges, r)) => {
@@ -236,7 +235,9 @@ pub fn run(start: &Supervisor, memory: &[u16], triggers: u32, lines: u32, acknow
         }
         next.branches[b].used = queue.len() as u8;
         queue.resize(8, 0);
-        next.branches[b].words.copy_from_slice(&queue);
+        for (place, word) in queue.into_iter().enumerate() {
+            set_word(&mut next.branches[b], place, word);
+        }
     }
 
     // Scalers. [Assign.1]–[Assign.4]
@@ -277,17 +278,15 @@ pub fn run(start: &Supervisor, memory: &[u16], triggers: u32, lines: u32, acknow
     (answer, next)
 }
 
+/// Whether main has raised this line: the five from level 1 OK on. [Answer.1]
+pub fn is_up(r: &Supervisor, line: u32) -> bool {
+    bit(r.raised.into(), line)
+}
+
 /// The lines out of a record. [Answer.1] [Main.16]
 pub fn lines_out(r: &Supervisor) -> u16 {
-    let raised = [
-        r.level_1_ok,
-        r.level_2_start,
-        r.level_2_accept,
-        r.level_3_start,
-        r.level_3_accept,
-        r.clear_count > 0,
-        bit(r.csr, 5),
-    ];
-    let low: u16 = raised.iter().enumerate().map(|(b, &up)| u16::from(up) << b).sum();
+    let mut up: Vec<bool> = (0..5).map(|line| is_up(r, line)).collect();
+    up.extend([r.clear_count > 0, bit(r.csr, 5)]);
+    let low: u16 = up.iter().enumerate().map(|(b, &up)| u16::from(up) << b).sum();
     low + 256 * u16::from(r.accept_pattern)
 }

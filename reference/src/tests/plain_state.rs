@@ -9,15 +9,15 @@ pub fn state(r: &Supervisor) -> u32 {
 fn is_high(r: &Supervisor, number: u32) -> bool {
     let line = |bit: u32| r.kept_lines >> bit & 1 == 1; // [State.3] [State.6]
     match number {
-        0 => r.level_1_ok, // [State.7]
-        1 => r.level_2_start,
+        0 => plain::is_up(r, 0), // [State.7]
+        1 => plain::is_up(r, 1),
         2 => line(1),
         3 => line(2),
-        4 => r.level_2_accept,
-        5 => r.level_3_start,
+        4 => plain::is_up(r, 2),
+        5 => plain::is_up(r, 3),
         6 => line(3),
         7 => line(4),
-        8 => r.level_3_accept,
+        8 => plain::is_up(r, 4),
         9 => r.clear_count != 0,
         10 => line(5),
         11 => line(6),

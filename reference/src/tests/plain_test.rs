@@ -47,7 +47,7 @@ fn held(start: &Supervisor, in_test: bool, triggers: u32, lines: u32) -> Answer 
     let mut shown = NONE;
     for (word, branch) in shown.iter_mut().zip(&start.branches) {
         if branch.state == BranchState::Strobe {
-            *word = Some(branch.words[0]);
+            *word = Some(words(branch)[0]);
         }
     }
     let lines = plain::lines_out(start);

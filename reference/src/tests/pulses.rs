@@ -199,7 +199,7 @@ fn an_accept_touches_nothing_else() {
     // [Open: A5] [Open: M1]
     let mut unit = Unit::running(class_1(5, 0x81), &[], csr::GO);
     unit.record.late = true;
-    unit.record.level_3_start = true;
+    unit.record.raised = raised::LEVEL_3_START;
     unit.record.clear_count = 9;
     unit.record.age = 77;
     let before = unit.record.clone();
@@ -211,7 +211,7 @@ fn an_accept_touches_nothing_else() {
         class: 1,
         code: 5,
         accept_pattern: 0x81,
-        level_1_ok: true,
+        raised: raised::LEVEL_1_OK | raised::LEVEL_3_START,
         scalers: [0, 1],
         latched: true,
         ..before

@@ -41,11 +41,8 @@ pub(super) fn random_record(random: &mut Random) -> Supervisor {
     r.code = random.below(16) as u8;
     r.accept_pattern = random.next() as u8;
     r.late = random.flip();
-    r.level_1_ok = random.flip();
-    r.level_2_start = random.flip();
-    r.level_2_accept = random.flip();
-    r.level_3_start = random.flip();
-    r.level_3_accept = random.flip();
+    // Bits that are no line of main's show nowhere.
+    r.raised = random.next() as u8 & random.pick(&[0x1F, 0xFF]);
     r.sync_count = if random.flip() { random.below(4) } else { 65_534 - random.below(3) };
     r.user_sync_waiting = r.main == MainState::Idle && random.flip();
     r.blind = if random.flip() { 0 } else { random.below(3) };
@@ -60,7 +57,7 @@ pub(super) fn random_record(random: &mut Random) -> Supervisor {
     for branch in &mut r.branches {
         branch.used = if all_empty { 0 } else { random.below(if full { 9 } else { 8 }) as u8 };
         for place in 0..usize::from(branch.used) {
-            branch.words[place] = random.below(64) as u8;
+            set_word(branch, place, random.below(64) as u8);
         }
         let states = [BranchState::Rest, BranchState::Drop, BranchState::Strobe];
         branch.state = random.pick(&states[..if branch.used == 0 { 2 } else { 3 }]);
@@ -99,6 +96,7 @@ fn any_record_that_is_not_spoiled_stays_so() {
 #[test]
 fn the_quick_spoiled_test_is_the_slow_one() {
     let mut random = Random(0xFEDC_BA98_7654_3210);
+    let memory = vec![0; MEMORY_WORDS];
     let (mut spoiled, mut not) = (0, 0);
     for _ in 0..100_000 {
         let mut r = random_record(&mut random);
@@ -123,7 +121,7 @@ fn the_quick_spoiled_test_is_the_slow_one() {
             14 => r.clear_count = wild,
             15 => r.sync_count = wild,
             16 => r.branches[b].used = wild as u8,
-            17 => r.branches[b].words[input] = wild as u8,
+            17 => set_word(&mut r.branches[b], input, wild as u8),
             18 => r.branches[b].state = BranchState::Strobe,
             19 => r.user_sync_waiting = true,
             20 => r.blind = wild,
@@ -133,6 +131,9 @@ fn the_quick_spoiled_test_is_the_slow_one() {
             _ => r.main = random.pick(&[MainState::Idle, MainState::Wait2, MainState::Front, MainState::Space]),
         }
         assert_eq!(r.is_spoiled(), plain::is_spoiled(&r), "{r:?}");
+        // [Declines.5a]
+        let declined = r.clone().tick(&memory, 0, 0, 0).err();
+        assert_eq!(declined, r.is_spoiled().then_some(decline::SPOILED), "{r:?}");
         *(if r.is_spoiled() { &mut spoiled } else { &mut not }) += 1;
     }
     assert!(spoiled > 10_000 && not > 10_000, "{spoiled} spoiled, {not} not");

@@ -153,7 +153,7 @@ fn word_over_3f() {
             for word in [0, 0x3F, 0x40, 0x7F, 0x80, 0xFF] {
                 expect(word > 0x3F, |r| {
                     r.branches[b].used = place as u8 + 1; // [Spoiled.1f]
-                    r.branches[b].words[place] = word;
+                    set_word(&mut r.branches[b], place, word);
                 });
             }
         }
@@ -201,7 +201,7 @@ fn unused_place() {
                 expect(place >= usize::from(used), |r| {
                     r.main = MainState::Space;
                     r.branches[b].used = used; // [Spoiled.1g]
-                    r.branches[b].words[place] = 1;
+                    set_word(&mut r.branches[b], place, 1);
                 });
             }
         }
@@ -267,11 +267,7 @@ fn what_no_clause_names_does_not_spoil() {
     // Idle with a stale late mark, raised lines, c, age, class and pattern. [Open: A5]
     leaves(|r| {
         r.late = true;
-        r.level_1_ok = true;
-        r.level_2_start = true;
-        r.level_2_accept = true;
-        r.level_3_start = true;
-        r.level_3_accept = true;
+        r.raised = u8::MAX;
         r.clear_count = 255;
         r.age = 131_070;
         r.class = 255;

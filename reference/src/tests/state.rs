@@ -51,11 +51,11 @@ fn a_fresh_record_reads_so() {
 
 #[test]
 fn raised_lines_stand_where_section_3_11_has_them() {
-    turns(&[0], |r| r.level_1_ok = true); // [State.7]
-    turns(&[1], |r| r.level_2_start = true); // [State.2]
-    turns(&[4], |r| r.level_2_accept = true);
-    turns(&[5], |r| r.level_3_start = true);
-    turns(&[8], |r| r.level_3_accept = true);
+    turns(&[0], |r| r.raised = raised::LEVEL_1_OK); // [State.7]
+    turns(&[1], |r| r.raised = raised::LEVEL_2_START); // [State.2]
+    turns(&[4], |r| r.raised = raised::LEVEL_2_ACCEPT);
+    turns(&[5], |r| r.raised = raised::LEVEL_3_START);
+    turns(&[8], |r| r.raised = raised::LEVEL_3_ACCEPT);
     turns(&[], |r| (r.accept_pattern, r.csr) = (0xFF, csr::LEVEL_1_HARDWARE));
 }
 
@@ -169,7 +169,7 @@ fn every_state_but_idle_is_a_cycle() {
 #[test]
 fn active_asks_for_more_than_a_cycle() {
     turns(&[16], |r| r.csr = csr::ENABLE_SYNC | csr::FORCE_SYNC); // [Active.1]
-    turns(&[16, 18], |r| (r.branches[2].used, r.branches[2].words[0]) = (1, 5));
+    turns(&[16, 18], |r| (r.branches[2].used, r.branches[2].queue) = (1, 5));
     turns(&[16], |r| r.branches[1].state = BranchState::Drop); // no word: empty all the same [State.2]
     turns(&[], |r| r.blind = 2); // [Open: T8]
 }
@@ -228,7 +228,7 @@ fn full_is_one_branch_not_below_its_depth() {
 fn strobe_is_the_branchs_phase() {
     for b in 0..4 {
         let first = 20 + 3 * b as u32;
-        let word = |r: &mut Supervisor| (r.branches[b].used, r.branches[b].words[0]) = (1, 5);
+        let word = |r: &mut Supervisor| (r.branches[b].used, r.branches[b].queue) = (1, 5);
         turns(&[16, 18, first], |r| {
             word(r);
             r.branches[b].state = BranchState::Strobe;

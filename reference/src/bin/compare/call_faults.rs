@@ -14,13 +14,13 @@ const CALL_FAULTS: &[Fault] = &[
     ),
     fault(
         "spoiled: a factor of inputs 1-4 may have 21 bits",
-        "factor & !Self::WIDE_FACTOR",
-        "factor & !0x1F_FFFF",
+        "self.factors[i] | self.counters[i]",
+        "(self.factors[i] & !(1 << 20)) | self.counters[i]",
     ),
     fault(
         "spoiled: a factor of inputs 5-8 may have 20 bits",
-        "factor & !Self::NARROW_FACTOR",
-        "factor & !Self::WIDE_FACTOR",
+        "self.factors[4 + i] | self.counters[4 + i]",
+        "(self.factors[4 + i] & !0xF_C000) | self.counters[4 + i]",
     ),
     fault(
         "spoiled: a code over Fh passes",
@@ -42,11 +42,7 @@ const CALL_FAULTS: &[Fault] = &[
         "matches!(self.class, 2 | 3)",
         "matches!(self.class, 1..=3)",
     ),
-    fault(
-        "spoiled: a cycle while a user sync waits passes",
-        "(self.user_sync_waiting & (self.main != MainState::Idle))",
-        "false",
-    ),
+    fault("spoiled: a cycle while a user sync waits passes", "self.user_sync_waiting || no_class", "no_class"),
     fault(
         "spoiled: eight words while a user sync waits do not pass",
         "self.user_sync_waiting | matches!(self.main, MainState::Space | MainState::SyncHold)",

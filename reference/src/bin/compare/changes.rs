@@ -92,10 +92,12 @@ fn change_branch(random: &mut Random, n: &mut Record, which: u32) {
 
 /// A queue of another length, its words in order.
 fn change_queue(random: &mut Random, n: &mut Record, b: usize) {
-    n[b + 1] = random.pick(&[0, 1, 6, 7, 8, 8, 9, 15, 16, 17, 255]);
+    n[b + 1] = random.pick(&[0, 1, 6, 7, 8, 8, 9, 15, 16, 17, 128, 255]);
     n[b] = random.wide() & 0x3F3F_3F3F_3F3F_3F3F;
     if n[b + 1] < 8 {
         n[b] &= (1 << (8 * n[b + 1])) - 1;
+    } else if n[b + 1] > 8 && random.once_in(2) {
+        n[b] = 0; // too long, and nothing else
     }
     if n[b + 2] == 1 && n[b + 1] == 0 && random.once_in(2) {
         n[b + 2] = 0;

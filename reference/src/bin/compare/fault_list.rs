@@ -25,10 +25,11 @@ include!("test_faults.rs");
 include!("force_faults.rs");
 include!("held_faults.rs");
 include!("mode_faults.rs");
+include!("speed_faults.rs");
 include!("account_faults.rs");
 
 /// Those of the machine, in order.
-const MACHINE_FAULTS: [&[Fault]; 11] = [
+const MACHINE_FAULTS: [&[Fault]; 12] = [
     CALL_FAULTS,
     TICK_FAULTS,
     REQUEST_FAULTS,
@@ -40,6 +41,7 @@ const MACHINE_FAULTS: [&[Fault]; 11] = [
     FORCE_FAULTS,
     HELD_FAULTS,
     MODE_FAULTS,
+    SPEED_FAULTS,
 ];
 
 /// All of them with their numbers, from 1: the machine's, then the account's.

@@ -3,7 +3,7 @@
 /// Other lines in force in test mode.
 macro_rules! lines {
     ($says:literal, $wrong:literal) => {
-        fault($says, "written_lines(waits)", $wrong)
+        fault($says, "written_lines(written)", $wrong)
     };
 }
 
@@ -12,8 +12,8 @@ macro_rules! low {
     ($says:literal, $bit:literal) => {
         fault(
             concat!("a written ", $says, " raises nothing"),
-            "written_lines(waits)",
-            concat!("written_lines(waits & !(1 << ", $bit, "))"),
+            "written_lines(written)",
+            concat!("written_lines(written & !(1 << ", $bit, "))"),
         )
     };
 }
@@ -23,10 +23,10 @@ macro_rules! swapped {
     ($says:literal, $one:literal, $other:literal) => {
         fault(
             concat!("TEST: ", $says, " are exchanged"),
-            "written_lines(waits)",
+            "written_lines(written)",
             concat!(
-                "{ let other = (waits >> ", $one, " ^ waits >> ", $other, ") & 1; ",
-                "written_lines(waits ^ (other << ", $one, " | other << ", $other, ")) }"
+                "{ let other = (written >> ", $one, " ^ written >> ", $other, ") & 1; ",
+                "written_lines(written ^ (other << ", $one, " | other << ", $other, ")) }"
             ),
         )
     };
@@ -35,7 +35,7 @@ macro_rules! swapped {
 /// Other pulses in force in test mode.
 macro_rules! pulses {
     ($says:literal, $wrong:literal) => {
-        fault($says, "if waits & test::LEVEL_1_PASS != 0 { enabled } else { 0 }", $wrong)
+        fault($says, "if written & test::LEVEL_1_PASS != 0 { enabled } else { 0 }", $wrong)
     };
 }
 
@@ -44,29 +44,33 @@ macro_rules! acknowledges {
     ($says:literal, $wrong:literal) => {
         fault(
             $says,
-            "if is_written { written_acknowledges(waits) } else { outside.2 }",
-            concat!("{ let written = written_acknowledges(waits); let _ = written; ", $wrong, " }"),
+            "if has_acknowledges { written_acknowledges(written) } else { outside.acknowledges }",
+            concat!("{ let (high, outer) = (written_acknowledges(written), outside.acknowledges); ",
+                "let _ = (high, outer); ", $wrong, " }"),
         )
     };
 }
 
 #[rustfmt::skip]
 const FORCE_FAULTS: &[Fault] = &[
-    pulses!("outside triggers are in force in test mode too", "outside.0 | if waits & 1 != 0 { enabled } else { 0 }"),
-    pulses!("outside triggers are in force without bit 0", "if waits & 1 != 0 { enabled } else { outside.0 }"),
-    pulses!("bit 0 lets the outside triggers in", "if waits & 1 != 0 { outside.0 } else { 0 }"),
+    pulses!(
+        "outside triggers are in force in test mode too",
+        "outside.triggers | if written & 1 != 0 { enabled } else { 0 }"
+    ),
+    pulses!("outside triggers are in force without bit 0", "if written & 1 != 0 { enabled } else { outside.triggers }"),
+    pulses!("bit 0 lets the outside triggers in", "if written & 1 != 0 { outside.triggers } else { 0 }"),
     pulses!("bit 0 pulses nothing", "0"),
-    pulses!("bit 0 pulses input 1 only", "if waits & 1 != 0 { enabled & 1 } else { 0 }"),
-    pulses!("bit 0 pulses the lowest input", "if waits & 1 != 0 { enabled & enabled.wrapping_neg() } else { 0 }"),
-    pulses!("bit 0 pulses inputs 1-8 only", "if waits & 1 != 0 { enabled & 0xFF } else { 0 }"),
-    pulses!("bit 0 pulses one input less", "if waits & 1 != 0 { enabled & 0x7FF } else { 0 }"),
-    pulses!("bit 1 pulses", "if waits & 3 != 0 { enabled } else { 0 }"),
-    pulses!("bit 16 pulses", "if waits & 0x1_0001 != 0 { enabled } else { 0 }"),
+    pulses!("bit 0 pulses input 1 only", "if written & 1 != 0 { enabled & 1 } else { 0 }"),
+    pulses!("bit 0 pulses the lowest input", "if written & 1 != 0 { enabled & enabled.wrapping_neg() } else { 0 }"),
+    pulses!("bit 0 pulses inputs 1-8 only", "if written & 1 != 0 { enabled & 0xFF } else { 0 }"),
+    pulses!("bit 0 pulses one input less", "if written & 1 != 0 { enabled & 0x7FF } else { 0 }"),
+    pulses!("bit 1 pulses", "if written & 3 != 0 { enabled } else { 0 }"),
+    pulses!("bit 16 pulses", "if written & 0x1_0001 != 0 { enabled } else { 0 }"),
     fault(
         "bit 0 pulses all twelve inputs",
         "control::counted(self.control, triggers, lines)",
         "{
-            let all = start_csr & csr::TEST_MODE != 0 && lines & 1 != 0;
+            let all = self.csr & csr::TEST_MODE != 0 && lines & 1 != 0;
             if all { 0xFFF } else { control::counted(self.control, triggers, lines) }
         }",
     ),
@@ -78,35 +82,38 @@ const FORCE_FAULTS: &[Fault] = &[
     fault(
         "written pulses are not prescaled",
         "self.prescale(counted)",
-        "if start_csr & csr::TEST_MODE != 0 { 0 } else { self.prescale(counted) }",
+        "if self.csr & csr::TEST_MODE != 0 { 0 } else { self.prescale(counted) }",
     ),
-    lines!("all outside lines are in force in test mode too", "written_lines(waits) | outside.1"),
-    lines!("the outside strobe is in force in test mode", "written_lines(waits) | (outside.1 & line::STROBE)"),
+    lines!("all outside lines are in force in test mode too", "written_lines(written) | outside.lines"),
+    lines!("the outside strobe is in force in test mode", "written_lines(written) | (outside.lines & line::STROBE)"),
     lines!(
         "the outside level 2 pass is in force in test mode",
-        "written_lines(waits) | (outside.1 & line::LEVEL_2_PASS)"
+        "written_lines(written) | (outside.lines & line::LEVEL_2_PASS)"
     ),
     lines!(
         "the outside level 2 fail is in force in test mode",
-        "written_lines(waits) | (outside.1 & line::LEVEL_2_FAIL)"
+        "written_lines(written) | (outside.lines & line::LEVEL_2_FAIL)"
     ),
     lines!(
         "the outside level 3 pass is in force in test mode",
-        "written_lines(waits) | (outside.1 & line::LEVEL_3_PASS)"
+        "written_lines(written) | (outside.lines & line::LEVEL_3_PASS)"
     ),
     lines!(
         "the outside level 3 fail is in force in test mode",
-        "written_lines(waits) | (outside.1 & line::LEVEL_3_FAIL)"
+        "written_lines(written) | (outside.lines & line::LEVEL_3_FAIL)"
     ),
-    lines!("the outside front busy is in force in test mode", "written_lines(waits) | (outside.1 & line::FRONT_BUSY)"),
-    lines!("the outside inhibit is in force in test mode", "written_lines(waits) | (outside.1 & line::INHIBIT)"),
+    lines!(
+        "the outside front busy is in force in test mode",
+        "written_lines(written) | (outside.lines & line::FRONT_BUSY)"
+    ),
+    lines!("the outside inhibit is in force in test mode", "written_lines(written) | (outside.lines & line::INHIBIT)"),
     lines!(
         "the outside lines are in force where nothing waits",
-        "if waits == 0 { outside.1 } else { written_lines(waits) }"
+        "if written == 0 { outside.lines } else { written_lines(written) }"
     ),
-    lines!("the strobe is low for bit 0", "written_lines(waits) & !line::STROBE"),
-    lines!("the strobe is high in test mode", "written_lines(waits) | line::STROBE"),
-    lines!("the strobe is high for every bit", "written_lines(waits) | u32::from(waits != 0)"),
+    lines!("the strobe is low for bit 0", "written_lines(written) & !line::STROBE"),
+    lines!("the strobe is high in test mode", "written_lines(written) | line::STROBE"),
+    lines!("the strobe is high for every bit", "written_lines(written) | u32::from(written != 0)"),
     low!("level 2 pass", 2),
     low!("level 3 pass", 3),
     low!("level 2 fail", 4),
@@ -121,60 +128,64 @@ const FORCE_FAULTS: &[Fault] = &[
     swapped!("front busy and inhibit", 8, 9),
     swapped!("front busy and bit 6", 8, 6),
     swapped!("inhibit and the acknowledge of branch 1", 9, 10),
-    acknowledges!("bit 14 is ignored", "outside.2"),
-    acknowledges!("bit 14 always", "written"),
-    acknowledges!("bit 14 adds to the outside", "if is_written { written | outside.2 } else { outside.2 }"),
+    acknowledges!("bit 14 is ignored", "outer"),
+    acknowledges!("bit 14 always", "high"),
+    acknowledges!("bit 14 adds to the outside", "if has_acknowledges { high | outer } else { outer }"),
     acknowledges!(
         "an acknowledge bit needs no bit 14",
-        "if is_written || waits & 0x3C00 != 0 { written } else { outside.2 }"
+        "if has_acknowledges || written & 0x3C00 != 0 { high } else { outer }"
     ),
     acknowledges!(
         "bit 14 needs an acknowledge bit",
-        "if is_written && waits & 0x3C00 != 0 { written } else { outside.2 }"
+        "if has_acknowledges && written & 0x3C00 != 0 { high } else { outer }"
     ),
-    acknowledges!("bit 15 stands for bit 14", "if waits >> 15 & 1 != 0 || is_written { written } else { outside.2 }"),
-    acknowledges!("a written acknowledge is one line", "if is_written { written & 0x0101_0101 } else { outside.2 }"),
+    acknowledges!("bit 15 stands for bit 14", "if written >> 15 & 1 != 0 || has_acknowledges { high } else { outer }"),
+    acknowledges!("a written acknowledge is one line", "if has_acknowledges { high & 0x0101_0101 } else { outer }"),
     acknowledges!(
         "a written acknowledge lacks controller 7",
-        "if is_written { written & 0x7F7F_7F7F } else { outside.2 }"
+        "if has_acknowledges { high & 0x7F7F_7F7F } else { outer }"
     ),
     acknowledges!(
         "a written acknowledge is as enabled",
-        "if is_written { written & self.roc_enable } else { outside.2 }"
+        "if has_acknowledges { high & self.roc_enable } else { outer }"
     ),
     acknowledges!(
         "written acknowledges lie from the high end",
-        "if is_written { written.swap_bytes() } else { outside.2 }"
+        "if has_acknowledges { high.swap_bytes() } else { outer }"
     ),
     acknowledges!(
         "the written acknowledges of branches 2 and 3 are exchanged",
-        "if is_written { written & 0xFF00_00FF | (written & 0xFF00) << 8 | (written >> 8 & 0xFF00) } else { outside.2 }"
+        "if has_acknowledges { high & 0xFF00_00FF | (high & 0xFF00) << 8 | (high >> 8 & 0xFF00) } else { outer }"
     ),
-    acknowledges!("outside acknowledges are blocked in test mode", "if is_written { written } else { 0 }"),
-    acknowledges!("test mode acknowledges by itself", "if is_written { written } else { u32::MAX }"),
+    acknowledges!("outside acknowledges are blocked in test mode", "if has_acknowledges { high } else { 0 }"),
+    acknowledges!("test mode acknowledges by itself", "if has_acknowledges { high } else { u32::MAX }"),
     fault(
         "in test mode all controllers count where none is enabled",
         "branch.step(enabled[b], acknowledged[b], load)",
         "{
-            let none = start_csr & csr::TEST_MODE != 0 && enabled[b] == 0;
+            let none = self.csr & csr::TEST_MODE != 0 && enabled[b] == 0;
             branch.step(if none { 0xFF } else { enabled[b] }, acknowledged[b], load)
         }",
     ),
-    fault("the kept lines are those from outside", "self.kept_lines = lines", "self.kept_lines = outside.1"),
+    fault(
+        "the kept lines are those from outside",
+        "self.run(memory, input, &mut answer)",
+        "self.run(memory, input, &mut answer); self.kept_lines = outside.lines",
+    ),
     fault(
         "the kept acknowledges are those from outside",
-        "self.kept_acknowledges = acknowledges",
-        "self.kept_acknowledges = outside.2",
+        "self.run(memory, input, &mut answer)",
+        "self.run(memory, input, &mut answer); self.kept_acknowledges = outside.acknowledges",
     ),
     fault(
         "an outside inhibit sets status 16 in test mode",
-        "lines & line::INHIBIT != 0",
-        "(lines | outside.1) & line::INHIBIT != 0",
+        "self.run(memory, input, &mut answer)",
+        "self.run(memory, input, &mut answer); self.csr |= (outside.lines >> 6 & 1) << 16",
     ),
     fault(
         "a written inhibit sets no status bit",
         "lines & line::INHIBIT != 0",
-        "start_csr & csr::TEST_MODE == 0 && lines >> 6 & 1 != 0",
+        "self.csr & csr::MODES < csr::TEST_MODE && lines >> 6 & 1 != 0",
     ),
     fault("never ready in test mode", "!blind", "!blind && csr & csr::TEST_MODE == 0"),
 ];

@@ -5,9 +5,9 @@ macro_rules! holds {
     ($says:literal, $wrong:literal) => {
         fault(
             $says,
-            "self.csr & csr::HOLD != 0 && self.test & test::SINGLE_STEP == 0",
+            "self.csr & csr::HOLD != 0 && !steps",
             concat!(
-                "{ let (hold, step) = (self.csr & csr::HOLD != 0, self.test & test::SINGLE_STEP != 0); ",
+                "{ let (hold, step) = (self.csr & csr::HOLD != 0, steps); ",
                 "let testing = self.csr & csr::TEST_MODE != 0; let _ = (hold, step, testing); ", $wrong, " }"
             ),
         )
@@ -19,9 +19,9 @@ macro_rules! stops {
     ($says:literal, $wrong:literal) => {
         fault(
             $says,
-            "if blocked { 0 } else { control::counted(self.control, outside, outside_lines) }",
+            "if self.csr & csr::TEST_MODE != 0 { 0 } else { counted }",
             concat!(
-                "{ let counted = control::counted(self.control, outside, outside_lines); let _ = (counted, blocked); ",
+                "{ let blocked = self.csr & csr::TEST_MODE != 0; let _ = blocked; ",
                 $wrong, " }"
             ),
         )
@@ -31,7 +31,14 @@ macro_rules! stops {
 /// Something that a held tick does besides.
 macro_rules! does {
     ($says:literal, $wrong:literal) => {
-        fault($says, "self.held(triggers, lines)", concat!("{ ", $wrong, " self.held(triggers, lines) }"))
+        fault(
+            $says,
+            "self.held(outside)",
+            concat!(
+                "{ let Input { triggers, lines, acknowledges } = outside; let _ = (triggers, lines, acknowledges); ",
+                $wrong, " self.held(outside) }"
+            ),
+        )
     };
 }
 
@@ -64,14 +71,14 @@ const HELD_FAULTS: &[Fault] = &[
     stops!("a held tick stops nothing", "0"),
     stops!("held pulses count in test mode", "counted"),
     stops!("held pulses count only in test mode", "if blocked { counted } else { 0 }"),
-    stops!("a held tick stops every trigger", "if blocked { 0 } else { outside }"),
+    stops!("a held tick stops every trigger", "if blocked { 0 } else { outside.triggers }"),
     stops!(
         "a held tick ignores strobe mode",
-        "if blocked { 0 } else { control::counted(self.control & !1, outside, 0) }"
+        "if blocked { 0 } else { control::counted(self.control & !1, outside.triggers, 0) }"
     ),
     stops!(
         "a held tick ignores the enables",
-        "if blocked || (self.control & 1 != 0 && outside_lines & 1 == 0) { 0 } else { outside }"
+        "if blocked || (self.control & 1 != 0 && outside.lines & 1 == 0) { 0 } else { outside.triggers }"
     ),
     stops!(
         "OPEN PRESCALES stops nothing under hold",
@@ -127,7 +134,8 @@ const HELD_FAULTS: &[Fault] = &[
         "<&[u16; MEMORY_WORDS]>::try_from(memory)",
         "{
             let held = self.csr & csr::HOLD != 0 && self.test & 0x80 == 0;
-            if held && triggers <= TRIGGER_BITS && lines < 0x80 { return Ok(self. held(triggers, lines)); }
+            let outside = Input { triggers, lines, acknowledges };
+            if held && triggers <= TRIGGER_BITS && lines < 0x80 { return Ok(self. held(outside)); }
             <&[u16; MEMORY_WORDS]>::try_from(memory)
         }",
     ),

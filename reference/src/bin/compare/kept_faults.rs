@@ -4,8 +4,12 @@
 const KEPT_FAULTS: &[Fault] = &[
     fault(
         "pass and fail are kept until the cycle ends",
-        "self.kept_lines = lines",
-        "self.kept_lines = lines | if start_main != MainState::Idle { self.kept_lines & 0x1E } else { 0 }",
+        "self.close(lines, acknowledges)",
+        "{
+            let before = self.kept_lines & 0x1E;
+            self.close(lines, acknowledges);
+            if start_main != MainState::Idle { self.kept_lines |= before }
+        }",
     ),
     fault(
         "a line once high is kept until RESET",
@@ -14,8 +18,12 @@ const KEPT_FAULTS: &[Fault] = &[
     ),
     fault(
         "lines are kept only where something passes",
-        "self.kept_lines = lines",
-        "if passed != 0 { self.kept_lines = lines }",
+        "self.close(lines, acknowledges)",
+        "{
+            let before = self.kept_lines;
+            self.close(lines, acknowledges);
+            if answer.lost | answer.rejected | answer.accepted == 0 { self.kept_lines = before }
+        }",
     ),
     fault(
         "bit 7 of odd kept lines stays",
@@ -27,40 +35,39 @@ const KEPT_FAULTS: &[Fault] = &[
         "self.kept_lines = lines",
         "self.kept_lines = lines & !1",
     ),
-    fault(
-        "bit 12 only for accepted patterns",
-        "(accepted | rejected) != 0",
-        "accepted > 0",
-    ),
-    fault(
-        "bit 12 only for rejected patterns",
-        "(accepted | rejected) != 0",
-        "rejected > 0",
-    ),
-    fault(
-        "bit 12 for lost pulses too",
-        "(accepted | rejected) != 0",
-        "passed > 0",
-    ),
+    fault("bit 12 only for accepted patterns", "(answer.accepted | answer.rejected) != 0", "answer.accepted > 0"),
+    fault("bit 12 only for rejected patterns", "(answer.accepted | answer.rejected) != 0", "answer.rejected > 0"),
+    fault("bit 12 for lost pulses too", "(answer.accepted | answer.rejected) != 0", "passed > 0"),
     fault(
         "bit 12 for every pulse that counts",
-        "(accepted | rejected) != 0",
-        "counted > 0",
+        "self.take_pulses(memory, triggers, lines, answer)",
+        "{
+            self.take_pulses(memory, triggers, lines, answer);
+            self.latched = answer.stopped | answer.scaled | answer.lost | answer.rejected | answer.accepted != 0
+        }",
     ),
     fault(
         "bit 12 stays until the cycle ends",
-        "(accepted | rejected) != 0",
-        "(accepted | rejected) > 0 || (self.latched && start_main != MainState::Idle)",
+        "self.take_pulses(memory, triggers, lines, answer)",
+        "{
+            let before = self.latched && start_main != MainState::Idle;
+            self.take_pulses(memory, triggers, lines, answer);
+            self.latched |= before
+        }",
     ),
     fault(
         "bit 12 stays for the blind time",
-        "(accepted | rejected) != 0",
-        "(accepted | rejected) > 0 || (self.latched && blind)",
+        "self.take_pulses(memory, triggers, lines, answer)",
+        "{
+            let before = self.latched && self.blind > 0;
+            self.take_pulses(memory, triggers, lines, answer);
+            self.latched |= before
+        }",
     ),
     fault(
         "bit 12 stays until RESET",
-        "(accepted | rejected) != 0",
-        "(accepted | rejected) > 0 || self.latched",
+        "self.take_pulses(memory, triggers, lines, answer)",
+        "{ let before = self.latched; self.take_pulses(memory, triggers, lines, answer); self.latched |= before }",
     ),
     fault(
         "the acknowledges of the tick before are kept",
@@ -187,7 +194,7 @@ const KEPT_FAULTS: &[Fault] = &[
     fault(
         "spoiled: odd kept lines do not pass",
         "(self.clear_count > Self::CLEAR_COUNT_LIMIT)",
-        "(self.clear_count > Self::CLEAR_COUNT_LIMIT) | (self.kept_lines > line::ALL)",
+        "(self.clear_count > Self::CLEAR_COUNT_LIMIT) | (self.kept_lines > 0x7F)",
     ),
     fault(
         "a write to STATE is taken and forgotten",

@@ -185,29 +185,37 @@ const LATCH_FAULTS: &[Fault] = &[
 
     fault(
         "spoiled: a counter of inputs 1-4 above its factor",
-        "counter & !Self::WIDE_FACTOR",
-        "u32::from(counter > factor) | (counter & !Self::WIDE_FACTOR)",
+        "self.factors[i] | self.counters[i]",
+        "self.factors[i] | self.counters[i] | u32::from(self.counters[i] > self.factors[i]) << 31",
     ),
-    fault("spoiled: a counter of inputs 1-4 may have 21 bits", "counter & !Self::WIDE_FACTOR", "counter & !0x1F_FFFF"),
+    fault(
+        "spoiled: a counter of inputs 1-4 may have 21 bits",
+        "self.factors[i] | self.counters[i]",
+        "self.factors[i] | (self.counters[i] & !(1 << 20))",
+    ),
     fault(
         "spoiled: a counter of inputs 5-8 above its factor",
-        "counter & !Self::NARROW_FACTOR",
-        "u32::from(counter > factor) | (counter & !Self::NARROW_FACTOR)",
+        "self.factors[4 + i] | self.counters[4 + i]",
+        "self.factors[4 + i] | self.counters[4 + i] | u32::from(self.counters[4 + i] > self.factors[4 + i]) << 31",
     ),
     fault(
         "spoiled: a counter of inputs 5-8 may have 20 bits",
-        "counter & !Self::NARROW_FACTOR",
-        "counter & !Self::WIDE_FACTOR",
+        "self.factors[4 + i] | self.counters[4 + i]",
+        "self.factors[4 + i] | (self.counters[4 + i] & !0xF_C000)",
     ),
-    fault("spoiled: no counter's width is tested on inputs 5-8", "counter & !Self::NARROW_FACTOR", "0"),
+    fault(
+        "spoiled: no counter's width is tested on inputs 5-8",
+        "self.factors[4 + i] | self.counters[4 + i]",
+        "self.factors[4 + i]",
+    ),
     fault(
         "a counter above its factor falls to it",
-        "*counter -= 1",
-        "*counter = (*counter - 1).min(self.factors[input])",
+        "if above { counter - 1 } else { self.factors[input] }",
+        "if above { (counter - 1).min(self.factors[input]) } else { self.factors[input] }",
     ),
     fault(
         "a counter above its factor lets pulses pass",
-        "*counter > 0",
-        "*counter > 0 && *counter <= self.factors[input]",
+        "counter > 0",
+        "counter > 0 && counter <= self.factors[input]",
     ),
 ];

@@ -117,7 +117,7 @@ const MODE_FAULTS: &[Fault] = &[
     fault(
         "spoiled: odd bits that wait do not pass",
         "(self.clear_count > Self::CLEAR_COUNT_LIMIT)",
-        "(self.clear_count > Self::CLEAR_COUNT_LIMIT) | (self.test & !test::BITS != 0)",
+        "(self.clear_count > Self::CLEAR_COUNT_LIMIT) | (self.test & !0x7FBD != 0)",
     ),
     fault(
         "spoiled: a step that waits without hold does not pass",

@@ -13,10 +13,9 @@ macro_rules! model {
             fn record(n: &Record) -> $machine::Supervisor {
                 use $machine::*;
                 let word = |place: usize| n[place] as u32;
-                let raised = |bit: u32| n[RAISED] >> bit & 1 == 1;
                 let branch = |b: usize| Branch {
                     state: [BranchState::Rest, BranchState::Strobe, BranchState::Drop][n[BRANCH + 3 * b + 2] as usize],
-                    words: n[BRANCH + 3 * b].to_le_bytes(),
+                    queue: n[BRANCH + 3 * b],
                     used: n[BRANCH + 3 * b + 1] as u8,
                 };
                 Supervisor {
@@ -50,11 +49,7 @@ macro_rules! model {
                     code: n[CODE] as u8,
                     accept_pattern: n[PATTERN] as u8,
                     late: n[LATE] == 1,
-                    level_1_ok: raised(0),
-                    level_2_start: raised(1),
-                    level_2_accept: raised(2),
-                    level_3_start: raised(3),
-                    level_3_accept: raised(4),
+                    raised: n[RAISED] as u8,
                     sync_count: word(SYNC_COUNT),
                     user_sync_waiting: n[WAITING] == 1,
                     blind: word(BLIND),
@@ -90,11 +85,7 @@ macro_rules! model {
                 n[CLASS] = s.class.into();
                 n[CODE] = s.code.into();
                 n[PATTERN] = s.accept_pattern.into();
-                n[RAISED] = u64::from(s.level_1_ok)
-                    | u64::from(s.level_2_start) << 1
-                    | u64::from(s.level_2_accept) << 2
-                    | u64::from(s.level_3_start) << 3
-                    | u64::from(s.level_3_accept) << 4;
+                n[RAISED] = s.raised.into();
                 n[LATE] = s.late.into();
                 n[SYNC_COUNT] = s.sync_count.into();
                 n[WAITING] = s.user_sync_waiting.into();
@@ -106,7 +97,7 @@ macro_rules! model {
                 n[LATCH + 1] = s.latches[1].into();
                 n[TEST] = s.test.into();
                 for (b, branch) in s.branches.iter().enumerate() {
-                    n[BRANCH + 3 * b] = u64::from_le_bytes(branch.words);
+                    n[BRANCH + 3 * b] = branch.queue;
                     n[BRANCH + 3 * b + 1] = branch.used.into();
                     n[BRANCH + 3 * b + 2] = branch.state as u64;
                 }

@@ -19,8 +19,8 @@ const REQUEST_FAULTS: &[Fault] = &[
     ),
     fault(
         "ready sees the blind count after its fall",
-        "is_ready(start_csr, start_main, waiting, blind, lines)",
-        "is_ready(start_csr, start_main, waiting, self.blind > 0, lines)",
+        "is_ready(self.csr, self.main, self.user_sync_waiting, blind, lines)",
+        "is_ready(self.csr, self.main, self.user_sync_waiting, self.blind > 0, lines)",
     ),
     fault(
         "blind for ever",
@@ -30,17 +30,21 @@ const REQUEST_FAULTS: &[Fault] = &[
     fault(
         "the blind count falls only with GO",
         "self.blind.saturating_sub(1)",
-        "self.blind.saturating_sub(u32::from(start_csr & csr::GO != 0))",
+        "self.blind.saturating_sub(u32::from(self.csr & csr::GO != 0))",
     ),
     fault(
         "the blind count falls only at Idle",
         "self.blind.saturating_sub(1)",
-        "self.blind.saturating_sub(u32::from(start_main == MainState::Idle))",
+        "self.blind.saturating_sub(u32::from(self.main == MainState::Idle))",
     ),
     fault(
         "the blind count falls only where a pulse passes",
-        "self.blind.saturating_sub(1)",
-        "self.blind.saturating_sub(u32::from(passed != 0))",
+        "self.take_pulses(memory, triggers, lines, answer)",
+        "{
+            let before = self.blind;
+            self.take_pulses(memory, triggers, lines, answer);
+            if answer.lost | answer.rejected | answer.accepted == 0 { self.blind = before }
+        }",
     ),
     fault(
         "a tick declined with 5 lowers the blind count",
@@ -49,53 +53,71 @@ const REQUEST_FAULTS: &[Fault] = &[
     ),
     fault(
         "a pulse lost while blind starts the count again",
-        "lost = passed",
-        "lost = passed; if blind { self.blind = 2 }",
+        "answer.lost = passed as u16",
+        "answer.lost = passed as u16; if blind { self.blind = 2 }",
     ),
     fault(
         "every lost pulse starts the blind count",
-        "lost = passed",
-        "lost = passed; self.blind = 2",
+        "answer.lost = passed as u16",
+        "answer.lost = passed as u16; self.blind = 2",
     ),
     fault(
         "an accepted pattern starts the blind count too",
-        "accepted = passed",
-        "accepted = passed; self.blind = 2",
+        "answer.accepted = passed as u16",
+        "answer.accepted = passed as u16; self.blind = 2",
     ),
     fault(
         "pulses are stopped while blind",
-        "start_csr & csr::GO == 0 && self.control & control::OPEN_PRESCALES == 0",
-        "blind || (start_csr & csr::GO == 0 && self.control & control::OPEN_PRESCALES == 0)",
+        "self.csr & csr::GO == 0 && self.control & control::OPEN_PRESCALES == 0",
+        "blind || (self.csr & csr::GO == 0 && self.control & control::OPEN_PRESCALES == 0)",
     ),
     fault(
         "the prescalers stand still while blind",
-        "counted != 0",
-        "counted != 0 && !blind",
+        "self.prescale(counted)",
+        "if blind { 0 } else { self.prescale(counted) }",
     ),
     fault(
         "a tag does not load while blind",
-        "wanted && start_main == MainState::Idle",
-        "wanted && !(blind || start_main != MainState::Idle)",
+        "self.take_pulses(memory, triggers, lines, answer)",
+        "{
+            let blind = self.blind > 0;
+            self.take_pulses(memory, triggers, lines, answer);
+            if blind && start_main == MainState::Idle && !self.user_sync_waiting && super::sync_wanted(start_csr) {
+                self.move_branches(acknowledges, answer);
+                (self.kept_lines, self.kept_acknowledges, self.test) = (lines, acknowledges, 0);
+                self.csr |= (lines >> 6 & 1) << 16;
+                answer.lines = Self::lines_out(&*self);
+                return;
+            }
+        }",
     ),
     fault(
         "assign 00 counts no pulse while blind",
-        "u32::from(counts)",
-        "u32::from(counts && !(blind && self.assign == 0x00))",
+        "self.count_passed(passed, answer)",
+        "if !(blind && self.assign == 0x00) { self.count_passed(passed, answer) }",
     ),
     fault(
         "assign 01-0C count no pulse while blind",
-        "u32::from(counts)",
-        "u32::from(counts && !(blind && matches!(self.assign, 0x01..=0x0C)))",
+        "self.count_passed(passed, answer)",
+        "if !(blind && matches!(self.assign, 0x01..=0x0C)) { self.count_passed(passed, answer) }",
     ),
     fault(
         "assign 0D counts pulses lost while blind",
-        "(rejected | accepted) != 0",
-        "(rejected | accepted | if blind { lost } else { 0 }) != 0",
+        "self.count_passed(passed, answer)",
+        "{
+            self.count_passed(passed, answer);
+            let more = blind && self.assign == 0x0D && answer.lost != 0;
+            self.scalers[1] = self.scalers[1].wrapping_add(more.into());
+        }",
     ),
     fault(
         "assign 0F counts pulses lost while blind",
-        "rejected != 0",
-        "rejected != 0 || (blind && lost != 0)",
+        "self.count_passed(passed, answer)",
+        "{
+            self.count_passed(passed, answer);
+            let more = blind && self.assign == 0x0F && answer.lost != 0;
+            self.scalers[1] = self.scalers[1].wrapping_add(more.into());
+        }",
     ),
     fault(
         "RESET keeps the blind count",

@@ -25,7 +25,7 @@ macro_rules! taken {
 /// Another way for a write to join what waits.
 macro_rules! join {
     ($says:literal, $wrong:literal) => {
-        fault($says, "self.test |= value & !idle_step", $wrong)
+        fault($says, "self.test |= taken", $wrong)
     };
 }
 
@@ -105,13 +105,13 @@ const TEST_FAULTS: &[Fault] = &[
         "self.write_test(value)",
         "{ self.test &= !run.bits(); self.write_test(value) }",
     ),
-    join!("the last write to TEST wins", "self.test = value & !idle_step"),
-    join!("the first write to TEST wins", "if self.test == 0 { self.test = value & !idle_step }"),
-    join!("the last write to TEST wins, but a step stays", "self.test = (self.test & 0x80) | (value & !idle_step)"),
-    join!("two writes of one TEST bit cancel", "self.test ^= value & !idle_step"),
+    join!("the last write to TEST wins", "self.test = taken"),
+    join!("the first write to TEST wins", "if self.test == 0 { self.test = taken }"),
+    join!("the last write to TEST wins, but a step stays", "self.test = (self.test & 0x80) | (taken)"),
+    join!("two writes of one TEST bit cancel", "self.test ^= taken"),
     join!(
         "a write of 0 to TEST drops what waits",
-        "self.test = if value == 0 { 0 } else { self.test | value & !idle_step }"
+        "self.test = if value == 0 { 0 } else { self.test | taken }"
     ),
     join!(
         "a step takes the place of the pulses",
@@ -119,11 +119,11 @@ const TEST_FAULTS: &[Fault] = &[
     ),
     join!(
         "test mode is asked at the write",
-        "self.test |= value & !idle_step & if self.csr & csr::MODES < csr::TEST_MODE { 0x80 } else { u32::MAX }"
+        "self.test |= taken & if self.csr & csr::MODES < csr::TEST_MODE { 0x80 } else { u32::MAX }"
     ),
-    join!("TEST is written only with GO", "self.test |= if self.csr & csr::GO != 0 { value & !idle_step } else { 0 }"),
+    join!("TEST is written only with GO", "self.test |= if self.csr & csr::GO != 0 { taken } else { 0 }"),
     join!(
         "a write under hold is forgotten but for the step",
-        "self.test |= value & if idle_step == 0 { 0x80 } else { !0x80 }"
+        "self.test |= value & if self.csr >> 12 & 1 != 0 { 0x80 } else { !0x80 }"
     ),
 ];

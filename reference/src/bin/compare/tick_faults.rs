@@ -10,7 +10,7 @@ const TICK_FAULTS: &[Fault] = &[
     fault(
         "status 16 only without the override",
         "self.csr |= csr::INHIBIT",
-        "self.csr |= if start_csr & csr::OVERRIDE_INHIBIT == 0 { csr::INHIBIT } else { 0 }",
+        "self.csr |= if self.csr & csr::OVERRIDE_INHIBIT == 0 { csr::INHIBIT } else { 0 }",
     ),
     fault(
         "strobe mode is ignored",
@@ -19,8 +19,8 @@ const TICK_FAULTS: &[Fault] = &[
     ),
     fault(
         "OPEN PRESCALES is ignored",
-        "start_csr & csr::GO == 0 && self.control & control::OPEN_PRESCALES == 0",
-        "start_csr & csr::GO == 0",
+        "self.csr & csr::GO == 0 && self.control & control::OPEN_PRESCALES == 0",
+        "self.csr & csr::GO == 0",
     ),
     fault(
         "ready while a user sync is wanted",
@@ -39,38 +39,42 @@ const TICK_FAULTS: &[Fault] = &[
     ),
     fault(
         "a user sync sees main's move of the same tick",
-        "wanted && start_main == MainState::Idle",
-        "wanted && self.main == MainState::Idle",
+        "self.cycle(start_csr, lines)",
+        "{
+            let outcome = self.cycle(start_csr, lines);
+            if self.main == MainState::Idle { self.user_sync(start_csr) } else { outcome }
+        }",
     ),
     fault(
         "a tag is counted by scaler 0",
-        "matches!(outcome, Outcome::Event(_))",
-        "load.is_some()",
+        "self.count(assign::SYNC);
+        Outcome::Tag(word::TAG)",
+        "self.count(assign::SYNC); self.scalers[0] = self.scalers[0].wrapping_add(1); Outcome::Tag(word::TAG)",
     ),
-    fault(
-        "assign 0D counts accepted ones only",
-        "(rejected | accepted) != 0",
-        "accepted != 0",
-    ),
+    fault("assign 0D counts accepted ones only", "(answer.rejected | answer.accepted) != 0", "answer.accepted > 0"),
     fault(
         "assign 3x leaves out level 3",
-        "(failed_2 || failed_3) && self.main == MainState::Front",
-        "failed_2 && self.main == MainState::Front",
+        "self.count(assign::LATE_FAIL)",
+        "if level == assign::LEVEL_2_FAIL { self.count(assign::LATE_FAIL) }",
     ),
     fault(
         "assign 1x counts a fail that Wait 2 does not act on",
-        "start_main == MainState::Wait2 && lines & line::LEVEL_2_FAIL != 0",
-        "lines & line::LEVEL_2_FAIL != 0",
+        "self.take_pulses(memory, triggers, lines, answer)",
+        "{
+            if lines & line::LEVEL_2_FAIL != 0 && start_main != MainState::Wait2 { self.count(0x10) }
+            self.take_pulses(memory, triggers, lines, answer)
+        }",
     ),
     fault(
         "assign 5x leaves tags out",
-        "matches!(load, Some(word) if word & word::SYNC != 0)",
-        "matches!(outcome, Outcome::Event(word) if word & word::SYNC != 0)",
+        "self.count(assign::SYNC);
+        Outcome::Tag(word::TAG)",
+        "Outcome::Tag(word::TAG)",
     ),
     fault(
         "a branch moves only while some branch holds a word",
-        "!all_empty || !self.branches.iter().all(Branch::is_quiet)",
-        "!all_empty",
+        "load.is_none() && self.all_quiet()",
+        "load.is_none() && self.all_empty()",
     ),
     fault(
         "Strobe is raised in the tick that loads an empty branch",
@@ -114,8 +118,8 @@ const TICK_FAULTS: &[Fault] = &[
     ),
     fault(
         "the first pulse after a load of the counter is counted twice",
-        "*counter = self.factors[input]",
-        "*counter = self.factors[input].saturating_sub(1)",
+        "if above { counter - 1 } else { self.factors[input] }",
+        "if above { counter - 1 } else { self.factors[input].saturating_sub(1) }",
     ),
     fault(
         "a word with no class is OK",
@@ -204,8 +208,8 @@ const TICK_FAULTS: &[Fault] = &[
     ),
     fault(
         "a move to Idle leaves level 2 accept raised",
-        "self.level_2_accept = false",
-        "()",
+        "self.raised = 0",
+        "self.raised &= raised::LEVEL_2_ACCEPT",
     ),
     fault(
         "CSR write: set wins",

@@ -20,7 +20,7 @@ pub fn tick(random: &mut Random, profile: &Profile, record: &Record) -> Call {
         lines |= u32::from(random.chance(of)) << bit;
     }
     if random.once_in(400) {
-        triggers = random.pick(&[0xFFF, 0x1000, 0x1001, u32::MAX]);
+        triggers = random.pick(&[0, 0xFFF, 0x1000, 0x1001, u32::MAX]);
         lines = random.pick(&[0x7F, 0x80, 0xFF, u32::MAX]);
     }
     let mut acknowledges = 0;
