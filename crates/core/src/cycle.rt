@@ -18,6 +18,13 @@ pub struct Cycled {
     pub quiet: bool,
 }
 
+// A step, marked quiet or not.
+fn marked(step: MainStep, quiet: bool) -> Cycled
+    ensures { λ r. ⌜ r ≡ record { step = step; quiet = quiet } ⌝ }
+{
+    Cycled { step, quiet }
+}
+
 impl Core {
     // [Main.6] [Main.7] [Main.8] [Main.10] [Main.13] [Main.14] [Main.15] the tests of main, at the risen age
     fn tests(self, lines: Lines, age: u32, room: bool, empty: bool) -> Tests
@@ -54,41 +61,26 @@ impl Core {
         let aged = main.aged();
         let age = aged.age;
         match state {
-            State::Idle => Cycled {
-                step: quiet_step(aged),
-                quiet: true,
-            },
-            State::Delay => Cycled {
-                step: aged.in_delay(self.tests(lines, age, room, empty)),
-                quiet: true,
-            },
-            State::Wait2 => Cycled {
-                step: aged.in_wait2(self.tests(lines, age, room, empty)),
-                quiet: !lines.has_fail2(),
-            },
-            State::Wait3 => Cycled {
-                step: aged.in_wait3(self.tests(lines, age, room, empty)),
-                quiet: !lines.has_fail3(),
-            },
+            State::Idle => marked(quiet_step(aged), true),
+            State::Delay => marked(aged.in_delay(self.tests(lines, age, room, empty)), true),
+            State::Wait2 => {
+                let step = aged.in_wait2(self.tests(lines, age, room, empty));
+                marked(step, !lines.has_fail2())
+            }
+            State::Wait3 => {
+                let step = aged.in_wait3(self.tests(lines, age, room, empty));
+                marked(step, !lines.has_fail3())
+            }
             State::Front => {
                 let t = self.tests(lines, age, room, empty);
-                Cycled {
-                    step: aged.in_front(t),
-                    quiet: !t.front,
-                }
+                marked(aged.in_front(t), !t.front)
             }
-            State::Space => Cycled {
-                step: aged.in_space(self.tests(lines, age, room, empty)),
-                quiet: true,
-            },
-            State::SyncHold => Cycled {
-                step: aged.in_sync_hold(self.tests(lines, age, room, empty)),
-                quiet: !empty,
-            },
-            State::Clear => Cycled {
-                step: aged.in_clear(self.tests(lines, age, room, empty)),
-                quiet: true,
-            },
+            State::Space => marked(aged.in_space(self.tests(lines, age, room, empty)), true),
+            State::SyncHold => {
+                let step = aged.in_sync_hold(self.tests(lines, age, room, empty));
+                marked(step, !empty)
+            }
+            State::Clear => marked(aged.in_clear(self.tests(lines, age, room, empty)), true),
         }
     }
 
@@ -99,10 +91,7 @@ impl Core {
     {
         let main = self.main;
         if latch.accepted != 0 {
-            return Cycled {
-                step: quiet_step(main.accepted(word)),
-                quiet: true,
-            };
+            return marked(quiet_step(main.accepted(word)), true);
         }
         self.cycle_step(lines, room, empty)
     }

@@ -9,9 +9,9 @@ use Rattle.core.proofs.Core.main_step.Tie as tie
 
 returns : tie.Need-returns
 returns c =
-    let a = c .before .before .before .before .before .args in
-    let some = ne-eqb _ _ (c .before .before .if1 .taken) in
-    rw (c .quiet-step .ensures, c .before .accepted .ensures)
+    let a = c .before .before .before .before .before .before .args in
+    let some = ne-eqb _ _ (c .before .before .before .if1 .taken) in
+    rw (c .marked .ensures, c .before .quiet-step .ensures, c .before .before .accepted .ensures)
     (main-accepts (a .room) (a .empty) (a .lines) (a .self) (a .latch) (a .word) some, λ h. refl)
 
 returns-2 : tie.Need-returns-2
@@ -25,4 +25,10 @@ returns-2 c =
 pub main-step-spec : {M : Type 1} → statement M
 main-step-spec =
     tie.close
-    (tie.spec (λ c κs. search needs) (λ c κs. search needs) returns (λ c κs. search needs) returns-2)
+    (tie.spec
+    (λ c κs. search needs)
+    (λ c κs. search needs)
+    (λ c κs. search needs)
+    returns
+    (λ c κs. search needs)
+    returns-2)
