@@ -6,7 +6,7 @@
 --     main-accepts, main-goes-on   with an accepted pattern and without, for `main_step`
 -- Assumes nothing.
 use Prim.Native.Nat.{ℕ}
-use mathlib.Core.Path.{_≡_, refl, sym, ap, _∙_}
+use mathlib.Core.Path.{_≡_, refl, _∙_}
 use mathlib.Core.Bool.{Bool, true, false, not, cond, false≢true}
 use lib.Dec.{eqb, ltb}
 use Rattle.bits.proofs.TestLaws.{by-cond}

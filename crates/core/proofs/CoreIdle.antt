@@ -21,14 +21,12 @@ use Rattle.sync.specs.UserSync as user
 use Rattle.sequencer.specs.MainFields.{quiet}
 use Rattle.sequencer.specs.MemoryWord.{isOkWord}
 use Rattle.sequencer.specs.States.{isIdle}
-use Rattle.sequencer.specs.declared.main_sequencer.MainStep.{MainStep}
 use Rattle.scalers.proofs.ScalersLaws.{counted-nothing}
 use Rattle.trigger.specs.Lines.{hasStrobe}
 use Rattle.trigger.specs.Effects.{csrAfterOf, syncAfterOf}
 use Rattle.trigger.specs.Latch.{wordAtOf, noLatch}
 use Rattle.trigger.specs.declared.lines.Lines.{Lines}
 use Rattle.trigger.specs.declared.lines.Inputs.{Inputs}
-use Rattle.trigger.specs.declared.latch.Latch.{Latch}
 use Rattle.core.specs.Core.{isRunning, isReadyOf, mainStepOf, userStepOf, pulsedOf, latchIn, settledOf, stepOf}
 use Rattle.core.specs.StaysIdle.{hasUserSyncOf, staysIdleOf, stayedIdleOf}
 use Rattle.core.specs.declared.Core.{Core}

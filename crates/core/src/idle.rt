@@ -1,5 +1,5 @@
-// A tick in which no sequencer moves (document 01, "The tick"; document 02, N1, N2, N5): most ticks are, and little of the core
-// changes in them. The definitions are in specs/StaysIdle.antt.
+// A tick in which no sequencer moves, and one in which main's step reports nothing (document 01, "The tick"; document 02, N1, N2,
+// N5): most ticks are, and less of the core changes in them. The definitions are in specs/StaysIdle.antt and specs/Core.antt.
 ghost use mathlib.Core.Path.{_≡_};
 ghost use Rattle.sync.specs.UserSync.{stepBy, stays};
 ghost use Rattle.sequencer.specs.MainFields.{quiet};
@@ -56,6 +56,7 @@ impl Core {
             outcome: Outcome::Nothing,
         }
     }
+
     // [Tick.3] the core put together again where main's step is quiet and there is no user sync
     pub fn settled_quietly(
         self,

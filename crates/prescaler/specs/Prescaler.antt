@@ -8,7 +8,7 @@
 -- Bit i and place i are input i + 1.
 -- Own rules of 01 used here: none. Decisions: T7, R7, R8. Left out: which pulses are counted, in registers.
 -- Assumes nothing.
-use Prim.Native.Nat.{ℕ, suc, _+_, _-_, _*_, _%_, _^_, _≤_}
+use Prim.Native.Nat.{ℕ, suc, _+_, _-_, _*_, _≤_}
 use mathlib.Core.Path.{_≡_}
 use mathlib.Core.Bool.{Bool, true, false, not, _&&_, _||_}
 use mathlib.Core.List.{List}

@@ -1,5 +1,5 @@
 -- The code's choices are the moves of document 01.
---     step-by-state        for `MainSequencer::step`, which goes by the state
+--     step-by-state        for `Core::cycle_step`, which goes by the state
 --     fails2-by-choice, fails3-by-choice   for the fails of Wait 2 and Wait 3, which share their code
 -- Assumes nothing.
 use mathlib.Core.Path.{_≡_, refl, sym, ap}
