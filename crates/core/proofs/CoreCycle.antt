@@ -1,13 +1,12 @@
--- Main's step state by state, as the code makes it, is the step of the definition; and where the code says that it is quiet, main
--- alone changes.
---     isQuietIn         what the code says in each state
---     quiet-in          it is right
---     cycled-by-state   both, for `cycle_step`
+-- Main's step state by state, as the code makes it, is the step of the definition; and a step that is marked quiet is.
+--     quiet-in          in each state, where its tests say so
+--     cycled-by-state   the step by state, with its mark, for `cycle_step`
 --     main-accepts, main-goes-on   with an accepted pattern and without, for `main_step`
+--     quiet-is-quiet    the mark is right, for `step`
 -- Assumes nothing.
 use Prim.Native.Nat.{ℕ}
-use mathlib.Core.Path.{_≡_, refl, _∙_}
-use mathlib.Core.Bool.{Bool, true, false, not, cond, false≢true}
+use mathlib.Core.Path.{_≡_, refl, sym, ap, subst, _∙_}
+use mathlib.Core.Bool.{Bool, true, false, not, _||_, cond, false≢true}
 use lib.Dec.{eqb, ltb}
 use Rattle.bits.proofs.TestLaws.{by-cond}
 use Rattle.sequencer.specs.MainFields.{quiet}
@@ -18,13 +17,17 @@ use Rattle.sequencer.specs.declared.states.State.the-variants.{Idle, Delay, Wai
 use Rattle.sequencer.specs.declared.states.State.the-variants.{Front, Space, SyncHold, Clear}
 use Rattle.sequencer.specs.declared.main_sequencer.MainSequencer.{MainSequencer}
 use Rattle.sequencer.specs.declared.main_sequencer.Tests.{Tests}
+use Rattle.sequencer.specs.declared.main_sequencer.MainStep.{MainStep}
 use Rattle.sequencer.proofs.MainLaws.{aged-keeps-state}
 use Rattle.sequencer.proofs.SequencerChoices.{step-by-state}
 use Rattle.trigger.specs.Lines.{hasFail2, hasFail3}
 use Rattle.trigger.specs.declared.lines.Lines.{Lines}
 use Rattle.trigger.specs.declared.latch.Latch.{Latch}
+use Rattle.scalers.specs.Scalers.{isSome}
 use Rattle.core.specs.Core.{testsOf, cycleStepOf, mainStepOf}
+use Rattle.core.specs.QuietStep.{isQuietIn, cycledOf, mainCycledOf}
 use Rattle.core.specs.declared.Core.{Core}
+use Rattle.core.specs.declared.cycle.Cycled.{Cycled}
 
 -- ---- the moves that report nothing
 
@@ -55,18 +58,7 @@ module _ (room empty : Bool) (l : Lines) (c : Core) where
   abbrev tests : Tests
   tests = testsOf room empty (aged .age) l c
 
-  -- what the code says of the step in each state
-  abbrev pub isQuietIn : State → Bool
-  isQuietIn Idle = true
-  isQuietIn Delay = true
-  isQuietIn Wait2 = not (hasFail2 l)
-  isQuietIn Wait3 = not (hasFail3 l)
-  isQuietIn Front = not (tests .front)
-  isQuietIn Space = true
-  isQuietIn SyncHold = not empty
-  isQuietIn Clear = true
-
-  quiet-in : (g : State) → isQuietIn g ≡ true → Quiet tests aged (moveIn g tests aged)
+  quiet-in : (g : State) → isQuietIn l (tests .front) empty g ≡ true → Quiet tests aged (moveIn g tests aged)
   unfolding testsOf
   quiet-in Idle h = refl
   quiet-in Delay h = by-cond (Quiet tests aged) (bothAccepts tests aged) (λ e. refl) (λ e. refl)
@@ -80,18 +72,36 @@ module _ (room empty : Bool) (l : Lines) (c : Core) where
       (λ e. by-cond (Quiet tests aged) (tests .front) (λ e. refl) (λ e. refl))
 
   pub cycled-by-state : (g : State) → c .main .state ≡ g
-      → (stepBy (moveIn g tests aged) tests aged ≡ cycleStepOf room empty l c)
-      × (isQuietIn g ≡ true → Quiet tests aged (moveIn g tests aged))
-  cycled-by-state g e = (step-by-state g tests aged (aged-keeps-state (c .main) ∙ e), quiet-in g)
+      → record { step = stepBy (moveIn g tests aged) tests aged; quiet = isQuietIn l (tests .front) empty g }
+      ≡ cycledOf room empty l c
+  cycled-by-state g e =
+      let step = step-by-state g tests aged (aged-keeps-state (c .main) ∙ e) in
+      λ j. record { step = step j; quiet = isQuietIn l (tests .front) empty (sym e j) }
+
+  cycle-is-quiet : cycledOf room empty l c .quiet ≡ true → cycleStepOf room empty l c ≡ quiet (cycleStepOf room empty l c .next)
+  cycle-is-quiet h =
+      let is-step = step-by-state (c .main .state) tests aged (aged-keeps-state (c .main)) in
+      subst (λ (s : MainStep). s ≡ quiet (s .next)) is-step (quiet-in (c .main .state) h)
 
   -- ---- an accepted pattern, and none
 
   module _ (latch : Latch) (word : ℕ) where
     pub main-accepts : eqb (latch .accepted) 0 ≡ false
-        → quiet (main.acceptedOf word (c .main)) ≡ mainStepOf room empty l latch word c
+        → record { step = quiet (main.acceptedOf word (c .main)); quiet = true } ≡ mainCycledOf room empty l latch word c
     unfolding mainStepOf
     main-accepts some = rw some
 
-    pub main-goes-on : eqb (latch .accepted) 0 ≡ true → cycleStepOf room empty l c ≡ mainStepOf room empty l latch word c
+    pub main-goes-on : eqb (latch .accepted) 0 ≡ true → cycledOf room empty l c ≡ mainCycledOf room empty l latch word c
     unfolding mainStepOf
     main-goes-on none = rw none
+
+    pub quiet-is-quiet : {r : Cycled} → r ≡ mainCycledOf room empty l latch word c → r .quiet ≡ true
+        → mainStepOf room empty l latch word c ≡ quiet (mainStepOf room empty l latch word c .next)
+    unfolding mainStepOf
+    quiet-is-quiet e marked = go (isSome (latch .accepted)) (ap (λ (r : Cycled). r .quiet) (sym e) ∙ marked)
+      where
+        go : (some : Bool) → (some || cycledOf room empty l c .quiet) ≡ true
+            → cond some (quiet (main.acceptedOf word (c .main))) (cycleStepOf room empty l c)
+            ≡ quiet (cond some (quiet (main.acceptedOf word (c .main))) (cycleStepOf room empty l c) .next)
+        go true h = refl
+        go false h = cycle-is-quiet h

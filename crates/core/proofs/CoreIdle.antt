@@ -55,7 +55,7 @@ user-stays empty c none =
 -- ---- no sequencer moves
 
 module _ (c : Core) (low0 : c .scalers .scaler0 < 2 ^ 32) (low1 : c .scalers .scaler1 < 2 ^ 32) where
-  pub settled-still : (l : Lines) (p : Prescaled) → p .passed ≡ 0
+  settled-still : (l : Lines) (p : Prescaled) → p .passed ≡ 0
       → settledOf l p noLatch (quiet (c .main)) (user.stepBy user.stays (c .user)) c ≡ stayedIdleOf l p c
   unfolding settledOf stayedIdleOf csrAfterOf syncAfterOf syncHoldEndedIfOf userSyncEndedIfOf
   settled-still l p none = rw (none, counted-nothing (c .scalers) low0 low1)

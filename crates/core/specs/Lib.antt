@@ -2,4 +2,5 @@
 pub mod CoreFields
 pub mod Core
 pub mod StaysIdle
+pub mod QuietStep
 pub mod Spoiled

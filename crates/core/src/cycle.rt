@@ -1,9 +1,8 @@
 // The step of main in a tick (document 01, "The tick", Main). Each state asks for the tests by itself, so that a compiler makes
-// none but those that the state reads. The definitions are in specs/Core.antt.
+// none but those that the state reads. The definitions are in specs/Core.antt and specs/QuietStep.antt.
 ghost use mathlib.Core.Path.{_≡_};
-ghost use mathlib.Core.Bool.{true};
-ghost use Rattle.sequencer.specs.MainFields.{quiet};
-ghost use Rattle.core.specs.Core.{testsOf, cycleStepOf, mainStepOf};
+ghost use Rattle.core.specs.Core.{testsOf};
+ghost use Rattle.core.specs.QuietStep.{cycledOf, mainCycledOf};
 use crate::Core;
 use sequencer::main_sequencer::MainStep;
 use sequencer::main_sequencer::Tests;
@@ -53,8 +52,7 @@ impl Core {
 
     // [Main.1] the age rises first
     fn cycle_step(self, lines: Lines, room: bool, empty: bool) -> Cycled
-        ensures { λ r. ⌜ r .step ≡ cycleStepOf room empty lines self ⌝ }
-        ensures { λ r. ⌜ (r .quiet ≡ true → r .step ≡ quiet (r .step .next)) ⌝ }
+        ensures { λ r. ⌜ r ≡ cycledOf room empty lines self ⌝ }
     {
         let main = self.main;
         let state = main.state;
@@ -86,8 +84,7 @@ impl Core {
 
     // [Ready.5] an accepted pattern starts a cycle
     pub fn main_step(self, lines: Lines, latch: Latch, word: u16, room: bool, empty: bool) -> Cycled
-        ensures { λ r. ⌜ r .step ≡ mainStepOf room empty lines latch word self ⌝ }
-        ensures { λ r. ⌜ (r .quiet ≡ true → r .step ≡ quiet (r .step .next)) ⌝ }
+        ensures { λ r. ⌜ r ≡ mainCycledOf room empty lines latch word self ⌝ }
     {
         let main = self.main;
         if latch.accepted != 0 {

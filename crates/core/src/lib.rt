@@ -1,6 +1,6 @@
 // The core of the supervisor: all of the record but the branches (document 01, "The tick"; document 02, N1, N2, N5). It sees
 // the branches through two facts, every one empty and every one below its depth. The definitions are in specs/Core.antt; the
-// spoiled rule is in spoiled, a tick in which no sequencer moves in idle, the same core built anew in rebuilt.
+// spoiled rule is in spoiled, main's step in cycle, the shorter ways of a tick in idle, the same core built anew in rebuilt.
 ghost use mathlib.Core.Path.{_≡_};
 ghost use Rattle.core.specs.Core.{freshOf, resetOf, pulsedOf, isOpenOf, isReadyOf};
 ghost use Rattle.core.specs.Core.{settledOf, latchedOf, stepOf, linesOutOf, isActiveOf};

@@ -112,7 +112,7 @@ stepOf runs pulses b =
       passed = maskOf inputs (λ i. factsOf (fateAt runs pulses b i) .isPassed);
     }
 
--- of a bank that runs; no pulse of inputs 9–12 is scaled
+-- [Pulses.3] [Pulses.5] the scaled pulses of a bank that runs: none of inputs 9–12 is
 abbrev pub scaledOf : (pulses : ℕ) → Prescalers → ℕ
 scaledOf pulses b = maskOf prescaledInputs (λ i. factsOf (fateAt true pulses b i) .isScaled)
 

@@ -110,7 +110,7 @@ impl Prescalers {
         }
     }
 
-    // [Pulses.3] of a bank that runs; numbers and not tests, so that a compiler takes several at once
+    // [Pulses.3] the scaled pulses of a bank that runs; numbers and not tests, so that a compiler takes several at once
     fn scaled_of(self, pulses: u32) -> u32
         ensures { λ r. ⌜ r ≡ scaledOf pulses self ⌝ }
     {

@@ -43,7 +43,7 @@ resetOf s = s ▷ withScaler0 0 ▷ withScaler1 0
 abbrev pub isSome : (mask : ℕ) → Bool
 isSome mask = not (eqb mask 0)
 
--- a tick that brings nothing; no code counts it (nothing-counts)
+-- [Assign.1] [Assign.4] a tick that brings nothing, for the code; neither scaler counts it (counted-none)
 abbrev pub isNoneOf : Signals → Bool
 isNoneOf x =
     (eqb (x .passed) 0 && (eqb (x .rejected) 0 && eqb (x .accepted) 0))

@@ -1,10 +1,11 @@
 -- `core::Core::step` meets its contract: where no sequencer moves, what is left of a tick (`stays-idle-by-choices`); else each
 -- part, given the record at the tick's start, settled (`step-by-latched`), where main's step is quiet and there is no user sync
--- by the shorter way (`user-stays`).
+-- by the shorter way (`quiet-is-quiet`, `user-stays`).
 -- First written by tools/prove.py; `widths` are those of the scalers, the fifth field. Assumes nothing.
 use mathlib.Core.Path.{sym, _∙_}
 use Rattle.bits.proofs.TestLaws.{and-left, and-right}
 use Rattle.core.proofs.CoreParts.{step-by-latched}
+use Rattle.core.proofs.CoreCycle.{quiet-is-quiet}
 use Rattle.core.proofs.CoreIdle.{stays-idle-by-choices, user-stays}
 use borrow.Author.Tests.{not-true}
 use borrow.Author.Needs.{needs}
@@ -28,13 +29,16 @@ returns-2 c =
     let at-pulses = at-latch .before .before .before in
     let a = at-pulses .before .before .before .before .before .before .args in
     let taken = c .before .if2 .taken in
-    let is-quiet = at-main .main-step .ensures .1 (and-left _ _ taken) in
+    let is-marked = and-left (at-main .main-step .result .quiet) _ taken in
+    let l = at-latch .latched .result in
+    let is-quiet =
+    quiet-is-quiet (a .room) (a .empty) (a .x .lines) (a .self) (l .latch) (l .word) (at-main .main-step .ensures) is-marked in
     let no-sync = sym (c .before .before .before .has-user-sync .ensures) ∙ not-true _ (and-right (at-main .main-step .result .quiet) _ taken) in
     rw (
       c .settled-quietly .ensures,
+      at-main .main-step .ensures,
       ← is-quiet,
       ← user-stays (a .empty) (a .self) no-sync,
-      at-main .main-step .ensures .0,
       at-latch .latched .ensures,
       at-pulses .pulsed .ensures,
     )
@@ -51,7 +55,7 @@ returns-3 c =
       c .before .step .ensures,
       c .before .before .is-idle .ensures,
       c .before .before .before .wants-user-sync .ensures,
-      at-main .main-step .ensures .0,
+      at-main .main-step .ensures,
       at-latch .latched .ensures,
       at-pulses .pulsed .ensures,
     )
