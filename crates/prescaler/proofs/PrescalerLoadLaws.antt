@@ -1,26 +1,27 @@
 -- Laws of the loads of a prescale counter: a factor written, RESET, the fresh bank, and the first pulse after.
 --     with-factor-loads, ..-keeps-counter, ..-keeps-others          the counter and the factor of each input after a write
 --     with-factor-leaves-counters        every counter, after a write without BYTE(3)
+--     with-factor-leaves-factor, with-factor-commutes   another input's factor, and two writes in both orders
 --     with-factor-has-, reloaded-has-, fresh-has-pass-count         what was just loaded has the count 0
 --     ..-lengths, ..-valid, ..-within    of each of them: eight places; factors and counters that fit
 --     first-pulse-scaled, first-pulse-scaled-after-reset            after a load with a factor above 0
 -- Assumes nothing.
 use Prim.Native.Nat.{ℕ, suc, _+_, _-_, _<_, _≤_}
-use mathlib.Core.Path.{_≡_, refl, ap, _∙_}
+use mathlib.Core.Path.{_≡_, refl, sym, ap, _∙_}
 use mathlib.Core.Bool.{Bool, true, false, cond}
 use mathlib.Core.List.{List}
 use mathlib.Core.Logic.{_≢_}
 use native.Mathlib.Omega.{arith}
 use lib.Dec.{leb}
 use lib.ListN.{length, getD, set, length-set}
-use lib.Seq.{getD-set-same, getD-set-other}
+use lib.Seq.{getD-set-same, getD-set-other, set-comm}
 use borrow.Author.Tests.{leb-true, le-leb}
 use Rattle.bits.specs.Notation.{_▷_}
 use Rattle.bits.specs.Bits.{bitAt, every}
 use Rattle.bits.proofs.TestLaws.{and-left, by-cond}
 use Rattle.registers.specs.Registers.{isValidFactor}
 use Rattle.prescaler.specs.PrescalerFields.{withCounters, withFactors, counterAt, factorAt}
-use Rattle.prescaler.specs.Prescaler.{prescaledInputs, freshOf, isPrescaledOf, withFactorOf, reloadedOf}
+use Rattle.prescaler.specs.Prescaler.{prescaledInputs, freshOf, isPrescaledOf, withFactorOf, factorOf, reloadedOf}
 use Rattle.prescaler.specs.Prescaler.{Fate, factsOf, stepOf, allFitOf, hasCountersWithinOf, hasValidFactorsOf}
 use Rattle.prescaler.specs.Prescaler.{EightPlaces, ScaledAt, PassCount}
 use Rattle.prescaler.specs.declared.Prescalers.{Prescalers}
@@ -134,6 +135,51 @@ module _ (input factor : ℕ) (b : Prescalers) where
         (λ e. by-cond (λ (l : List ℕ). allFitOf l ≡ true) loads
         (λ l. set-keeps-fit (b .counters) (input - 1) factor (place-fits e) h) (λ l. h))
         (λ e. h)
+
+-- ---- the factors of two inputs: whatever the lists' lengths, and whether the inputs have prescalers or not
+
+module _ (i j : ℕ) (apart : i ≢ j) where
+  pub with-factor-leaves-factor : (loads : Bool) (v : ℕ) (b : Prescalers)
+      → factorOf i (withFactorOf loads j v b) ≡ factorOf i b
+  unfolding factorOf
+  with-factor-leaves-factor loads v b = go (isPrescaledOf i) refl
+    where
+      go : (t : Bool) → isPrescaledOf i ≡ t
+          → cond t (factorAt (withFactorOf loads j v b) (i - 1)) 0 ≡ cond t (factorAt b (i - 1)) 0
+      go false e = refl
+      go true e =
+          let first : 1 ≤ i = leb-true 1 i (and-left (leb 1 i) (leb i prescaledInputs) e) in
+          with-factor-keeps-others j v b loads (i - 1) (λ same. apart (omega arith)) .factor
+
+  -- [Bytes.4a] the loads that are made touch different counters
+  pub with-factor-commutes : (l k : Bool) (v w : ℕ) (b : Prescalers)
+      → withFactorOf l i v (withFactorOf k j w b) ≡ withFactorOf k j w (withFactorOf l i v b)
+  unfolding withFactorOf
+  with-factor-commutes l k v w b = go (isPrescaledOf i) refl (isPrescaledOf j) refl l k
+    where
+      go : (t : Bool) → isPrescaledOf i ≡ t → (u : Bool) → isPrescaledOf j ≡ u → (l k : Bool)
+          → cond t (written i v (cond u (written j w b k) b) l) (cond u (written j w b k) b)
+          ≡ cond u (written j w (cond t (written i v b l) b) k) (cond t (written i v b l) b)
+      go false e u f l k = refl
+      go true e false f l k = refl
+      go true e true f l k =
+          λ at. record { counters = counters l k at; factors = swap (b .factors) at }
+        where
+          places : i - 1 ≢ j - 1
+          places same =
+              let first : 1 ≤ i = leb-true 1 i (and-left (leb 1 i) (leb i prescaledInputs) e) in
+              let second : 1 ≤ j = leb-true 1 j (and-left (leb 1 j) (leb j prescaledInputs) f) in
+              apart (omega arith)
+
+          swap : (m : List ℕ) → set (set m (j - 1) w) (i - 1) v ≡ set (set m (i - 1) v) (j - 1) w
+          swap m = sym (set-comm m (i - 1) (j - 1) v w places)
+
+          counters : (l k : Bool)
+              → written i v (written j w b k) l .counters ≡ written j w (written i v b l) k .counters
+          counters true true = swap (b .counters)
+          counters true false = refl
+          counters false true = refl
+          counters false false = refl
 
 -- ---- every counter loaded, and the fresh bank
 

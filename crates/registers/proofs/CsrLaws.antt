@@ -3,6 +3,7 @@
 --     go-rises-exactly        a write raises GO exactly when GO was 0, bit 0 is set and bit 16 is not
 --     clear-wins              a bit that the write sets and clears is 0 after it
 --     reset-clears            after RESET bits 0–3 are 0
+--     marked-keeps-low        bits 0–15 after marks
 --     mode-after-.., ..-keeps-mode   bits 4–13: after a write, with RESET or not; after marks and after the end of a sync
 --     fresh-is-valid          the fresh CSR has no bit
 --     ..-keeps-valid          a CSR with no bit other than 0–13 and 16–20 has none after the operation either
@@ -137,9 +138,20 @@ or-nothing true s = refl
 or-nothing false true = refl
 or-nothing false false = refl
 
+-- [CSR.2] the status bits are above 15
+below-status : (i : ℕ) → i < 16 → isStatusBit i ≡ false
+below-status i below = rw (lt-leb 16 i below)
+
+-- a status bit set leaves the bits that a write sets
+pub marked-keeps-low : (i : ℕ) → i < 16 → (marks : ℕ) (c : Csr) → hasBit (markedOf marks c) i ≡ hasBit c i
+marked-keeps-low i below marks c =
+    marked-at marks c i
+    ∙ ap (λ (t : Bool). hasBit c i || (bitAt marks i && t)) (below-status i below)
+    ∙ or-nothing (hasBit c i) (bitAt marks i)
+
 module _ (i : ℕ) (from4 : 4 ≤ i) (below14 : i < settableCount) where
   no-status : isStatusBit i ≡ false
-  no-status = rw (lt-leb 16 i (omega arith))
+  no-status = below-status i (omega arith)
 
   no-reset : ltb i 4 ≡ false
   no-reset = le-ltb i 4 from4
@@ -169,10 +181,7 @@ module _ (i : ℕ) (from4 : 4 ≤ i) (below14 : i < settableCount) where
 
   -- what a tick and a declined call do
   pub marked-keeps-mode : (marks : ℕ) (c : Csr) → hasBit (markedOf marks c) i ≡ hasBit c i
-  marked-keeps-mode marks c =
-      marked-at marks c i
-      ∙ ap (λ (t : Bool). hasBit c i || (bitAt marks i && t)) no-status
-      ∙ or-nothing (hasBit c i) (bitAt marks i)
+  marked-keeps-mode = marked-keeps-low i (omega arith)
 
   pub sync-hold-keeps-mode : (ended : Bool) (c : Csr) → hasBit (syncHoldEndedIfOf ended c) i ≡ hasBit c i
   unfolding syncHoldEndedIfOf

@@ -6,11 +6,12 @@
 --     past-last-is-absent                a number past the last names no register
 --     facts-by-number                    the facts of a number's register, by comparisons of the number
 --     numbered-is-in-range               a number names factor 1–8, timer 1–5, scaler 0 or 1, or another one
+--     settingNumber, SettingAt, protected-is-setting   a protected register is a setting, and its number is the setting's
 -- Assumes nothing.
-use Prim.Native.Nat.{ℕ, _-_, _<_, _≤_}
+use Prim.Native.Nat.{ℕ, _+_, _-_, _<_, _≤_}
 use mathlib.Core.Path.{_≡_, refl}
 use mathlib.Core.Logic.{_↔_}
-use mathlib.Core.Bool.{true, false, _&&_, _||_}
+use mathlib.Core.Bool.{true, false, _&&_, _||_, false≢true}
 use native.Mathlib.Omega.{arith}
 use lib.Dec.{eqb, ltb, leb}
 use borrow.Author.Tests.{lt-leb, le-leb, ltb-true, ltb-false, eqb-true, eqb-false, ne-eqb}
@@ -67,11 +68,20 @@ SettingInRange RocEnable = Unit {0}
 SettingInRange Interval = Unit {0}
 SettingInRange (Timer n) = Between 1 5 n
 
+-- [Registers.1] the number that names a setting
+abbrev pub settingNumber : Setting → ℕ
+settingNumber Control = 1
+settingNumber (Factor input) = input + 1
+settingNumber RocEnable = 10
+settingNumber Interval = 11
+settingNumber (Timer timer) = timer + 11
+
 -- the register of the number n, with the numbers of its kind
 pub data Named (n : ℕ) : Register → Type 0 where
   csr : n ≡ 0 → Named n Csr
   control : n ≡ 1 → Named n (register.Setting Control)
-  setting : (r : Setting) → Between 2 16 n → isControl r ≡ false → SettingInRange r → Named n (register.Setting r)
+  setting : (r : Setting) → Between 2 16 n → isControl r ≡ false → SettingInRange r → settingNumber r ≡ n
+      → Named n (register.Setting r)
   scaler : (k : ℕ) → Between 17 18 n → Between 0 1 k → Named n (Scaler k)
   assign : n ≡ 19 → Named n Assign
   state : n ≡ 20 → Named n State
@@ -82,22 +92,44 @@ pub data Named (n : ℕ) : Register → Type 0 where
 past : (n k : ℕ) → k ≤ n → eqb n k ≡ false → k < n
 past n k from e = let other : (n ≡ k → ⊥) = eqb-false n k e in omega arith
 
+-- the kinds that have several numbers, and the settings that have one
+module _ (n : ℕ) where
+  named-factor : 2 ≤ n → n < 10 → Named n (register.Setting (Factor (n - 1)))
+  named-factor from below =
+      setting (Factor (n - 1)) (record { least = from; most = omega arith }) refl
+      (record { least = omega arith; most = omega arith }) (omega arith)
+
+  named-timer : 12 ≤ n → n < 17 → Named n (register.Setting (Timer (n - 11)))
+  named-timer from below =
+      setting (Timer (n - 11)) (record { least = omega arith; most = omega arith }) refl
+      (record { least = omega arith; most = omega arith }) (omega arith)
+
+  named-roc-enable : n ≡ 10 → Named n (register.Setting RocEnable)
+  named-roc-enable at = setting RocEnable (record { least = omega arith; most = omega arith }) refl tt (omega arith)
+
+  named-interval : n ≡ 11 → Named n (register.Setting Interval)
+  named-interval at = setting Interval (record { least = omega arith; most = omega arith }) refl tt (omega arith)
+
+  named-scaler : 17 ≤ n → n < 19 → Named n (Scaler (n - 17))
+  named-scaler from below =
+      scaler (n - 17) (record { least = from; most = omega arith }) (record { least = omega arith; most = omega arith })
+
 pub number-names : (n : ℕ) → Named n (numberedOf n)
 unfolding numberedOf
 number-names n =
     by-cond (Named n) (eqb n 0) (λ e. csr (eqb-true n 0 e)) (λ not0.
     let above0 : (n ≡ 0 → ⊥) = eqb-false n 0 not0 in
     by-cond (Named n) (eqb n 1) (λ e. control (eqb-true n 1 e)) (λ not1.
-    let above1 : (n ≡ 1 → ⊥) = eqb-false n 1 not1 in
-    by-cond (Named n) (ltb n 10) (λ e. let below : n < 10 = ltb-true n 10 e in setting (Factor (n - 1)) (record { least = omega arith; most = omega arith }) refl (record { least = omega arith; most = omega arith })) (λ from10.
-    let above : 10 ≤ n = ltb-false n 10 from10 in
-    by-cond (Named n) (eqb n 10) (λ e. let at : n ≡ 10 = eqb-true n 10 e in setting RocEnable (record { least = omega arith; most = omega arith }) refl tt) (λ not10.
-    let above10 : (n ≡ 10 → ⊥) = eqb-false n 10 not10 in
-    by-cond (Named n) (eqb n 11) (λ e. let at : n ≡ 11 = eqb-true n 11 e in setting Interval (record { least = omega arith; most = omega arith }) refl tt) (λ not11.
-    let above11 : (n ≡ 11 → ⊥) = eqb-false n 11 not11 in
-    by-cond (Named n) (ltb n 17) (λ e. let below : n < 17 = ltb-true n 17 e in setting (Timer (n - 11)) (record { least = omega arith; most = omega arith }) refl (record { least = omega arith; most = omega arith })) (λ from17.
+    let above1 : 2 ≤ n = past n 1 (omega arith) not1 in
+    by-cond (Named n) (ltb n 10) (λ e. named-factor n above1 (ltb-true n 10 e)) (λ from10.
+    let above9 : 10 ≤ n = ltb-false n 10 from10 in
+    by-cond (Named n) (eqb n 10) (λ e. named-roc-enable n (eqb-true n 10 e)) (λ not10.
+    let above10 : 11 ≤ n = past n 10 above9 not10 in
+    by-cond (Named n) (eqb n 11) (λ e. named-interval n (eqb-true n 11 e)) (λ not11.
+    let above11 : 12 ≤ n = past n 11 above10 not11 in
+    by-cond (Named n) (ltb n 17) (λ e. named-timer n above11 (ltb-true n 17 e)) (λ from17.
     let above16 : 17 ≤ n = ltb-false n 17 from17 in
-    by-cond (Named n) (ltb n 19) (λ e. let below : n < 19 = ltb-true n 19 e in scaler (n - 17) (record { least = omega arith; most = omega arith }) (record { least = omega arith; most = omega arith })) (λ from19.
+    by-cond (Named n) (ltb n 19) (λ e. named-scaler n above16 (ltb-true n 19 e)) (λ from19.
     let above18 : 19 ≤ n = ltb-false n 19 from19 in
     by-cond (Named n) (eqb n 19) (λ e. assign (eqb-true n 19 e)) (λ not19.
     let above19 : 20 ≤ n = past n 19 above18 not19 in
@@ -115,7 +147,7 @@ past-last-is-absent n past = go (number-names n)
     go : {r : Register} → Named n r → r ≡ Absent
     go (csr e) = absurd (omega arith)
     go (control e) = absurd (omega arith)
-    go (setting r at other range) = absurd (omega (arith, at .most))
+    go (setting r at other range number) = absurd (omega (arith, at .most))
     go (scaler k at range) = absurd (omega (arith, at .most))
     go (assign e) = absurd (omega arith)
     go (state e) = absurd (omega arith)
@@ -133,7 +165,7 @@ facts-by-number n = go (number-names n)
     go : {r : Register} → Named n r → factsOf r ≡ factsAt n
     go (csr e) = rw e
     go (control e) = rw e
-    go (setting r at other range) =
+    go (setting r at other range number) =
         rw (
           other,
           le-leb 1 n (omega (arith, at .least)),
@@ -179,9 +211,32 @@ numbered-is-in-range n = go (number-names n)
     go : {r : Register} → Named n r → InRange r
     go (csr e) = tt
     go (control e) = tt
-    go (setting r at other range) = range
+    go (setting r at other range number) = range
     go (scaler k at range) = range
     go (assign e) = tt
     go (state e) = tt
     go (test e) = tt
     go (absent h) = tt
+
+-- ---- a protected register
+
+pub record SettingAt (n : ℕ) : Type 0 where
+  pub setting : Setting
+  pub named : numberedOf n ≡ register.Setting setting
+  pub range : SettingInRange setting
+  pub number : settingNumber setting ≡ n
+
+-- [Declines.2c]
+pub protected-is-setting : (n : ℕ) → factsOf (numberedOf n) .protected ≡ true → SettingAt n
+protected-is-setting n h = go (number-names n) refl h
+  where
+    go : {r : Register} → Named n r → numberedOf n ≡ r → factsOf r .protected ≡ true → SettingAt n
+    go (csr e) named h = absurd (false≢true h)
+    go (control e) named h = record { setting = Control; named = named; range = tt; number = omega arith }
+    go (setting r at other range number) named h =
+        record { setting = r; named = named; range = range; number = number }
+    go (scaler k at range) named h = absurd (false≢true h)
+    go (assign e) named h = absurd (false≢true h)
+    go (state e) named h = absurd (false≢true h)
+    go (test e) named h = absurd (false≢true h)
+    go (absent e) named h = absurd (false≢true h)
