@@ -44,13 +44,13 @@ end-keeps-fine fine (refused a n h) = fine
 end-keeps-fine {s = s} fine (refusedActive a) = marked-keeps-fine (statusBit a) s fine
 end-keeps-fine {s = s} fine (wrote number run v valid) =
     record {
-      ofType = write-keeps-type s (fine .ofType) (fine .unspoiled) (numberedOf number) (hasByte3 run) _;
-      unspoiled = write-keeps-unspoiled s (fine .ofType) (fine .unspoiled) (numberedOf number) (hasByte3 run) _ valid;
+      ofType = write-keeps-type s (fine .ofType) (numberedOf number) (hasByte3 run) _;
+      unspoiled = write-keeps-unspoiled s (fine .unspoiled) (numberedOf number) (hasByte3 run) _ valid;
     }
 end-keeps-fine {s = s} fine (read number run v) =
     record {
-      ofType = read-keeps-type s (fine .ofType) (fine .unspoiled) (numberedOf number) (hasByte3 run);
-      unspoiled = read-keeps-unspoiled s (fine .ofType) (fine .unspoiled) (numberedOf number) (hasByte3 run);
+      ofType = read-keeps-type s (fine .ofType) (numberedOf number) (hasByte3 run);
+      unspoiled = read-keeps-unspoiled s (fine .unspoiled) (numberedOf number) (hasByte3 run);
     }
 end-keeps-fine fine (gave place v) = fine
 end-keeps-fine fine (stored place word) = fine

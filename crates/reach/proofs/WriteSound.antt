@@ -127,7 +127,7 @@ latched-keeps-assign : (n : ℕ) (x : Scalers) → isValidAssign (x .assign) ≡
     → isValidAssign (scalers.latchedOf n x .assign) ≡ true
 latched-keeps-assign n x h = by-cond (λ (y : Scalers). isValidAssign (y .assign) ≡ true) (eqb n 0) (λ e. h) (λ e. h)
 
-module _ (s : Supervisor) (ofType : OfType s) (u : Unspoiled (s .core) (s .readout .branches)) where
+module _ (s : Supervisor) (u : Unspoiled (s .core) (s .readout .branches)) where
   -- a setting touches neither main, the user sync nor the branches
   setting-keeps-unspoiled : (r : Setting) (loads : Bool) (v : ℕ) → isValidSetting r v ≡ true
       → UnspoiledAfter (settingWrittenOf r loads v) s
@@ -197,8 +197,9 @@ module _ (s : Supervisor) (ofType : OfType s) (u : Unspoiled (s .core) (s .reado
   read-keeps-unspoiled register.Test latches = u
   read-keeps-unspoiled register.Absent latches = u
 
-  -- ---- and the types
+-- ---- and the types
 
+module _ (s : Supervisor) (ofType : OfType s) where
   of-request : (r : Request) (w : CsrWrite) → OfType (afterCsrOf r w s)
   unfolding initializedOf resetOf core.resetOf
   of-request Initialize w = fresh-is-of-type (length (s .readout .branches))
