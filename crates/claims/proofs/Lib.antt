@@ -5,3 +5,4 @@ pub mod PartsProved
 pub mod RequestsProved
 pub mod BytesProved
 pub mod TestModeProved
+pub mod OrderProved

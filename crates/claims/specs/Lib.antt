@@ -4,3 +4,4 @@ pub mod Parts
 pub mod Requests
 pub mod Bytes
 pub mod TestMode
+pub mod Order
