@@ -71,7 +71,7 @@ fn bytes_for(random: &mut Random, number: u32, run: (u32, u32)) -> u32 {
     inside & bits(run) | outside & !bits(run)
 }
 
-fn write(random: &mut Random, number: u32) -> Call {
+pub fn write(random: &mut Random, number: u32) -> Call {
     let run = run(random);
     [WRITE_BYTES, number.into(), bytes_for(random, number, run).into(), packed(run.0, run.1)]
 }

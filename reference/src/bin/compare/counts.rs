@@ -1,11 +1,12 @@
 //! What the compared calls met: every state, decline, outcome, assignment and clause of the spoiled rule, the blind
-//! time, STATE, byte-wise access, test mode and the held clock.
+//! time, STATE, byte-wise access, test mode and the held clock, and pairs of writes.
 
 use crate::blind_counts::{self, BlindCounts};
 use crate::byte_counts::ByteCounts;
 use crate::clauses::{broken_clauses, CLAUSES};
 use crate::held_counts::HeldCounts;
 use crate::numbers::*;
+use crate::order_counts::OrderCounts;
 use crate::owed_counts::OwedCounts;
 use crate::state_counts::StateCounts;
 use crate::test_counts::{in_force, TestCounts};
@@ -63,6 +64,7 @@ pub struct Counts {
     pub owed: OwedCounts,
     tests: TestCounts,
     holds: HeldCounts,
+    pub orders: OrderCounts,
     clauses: [[u64; 2]; CLAUSES.len()],
 }
 
@@ -89,6 +91,7 @@ impl Counts {
             owed: OwedCounts::new(),
             tests: TestCounts::new(),
             holds: HeldCounts::new(),
+            orders: OrderCounts::new(),
             clauses: [[0; 2]; CLAUSES.len()],
         }
     }
@@ -271,6 +274,7 @@ impl Counts {
             ("Reads of STATE", self.state.rows()),
             ("Byte-wise access", [self.bytes.rows(), self.owed.rows()].concat()),
             ("Test mode and the held clock", [self.tests.rows(), self.holds.rows()].concat()),
+            ("Two writes in both orders", self.orders.rows()),
         ] {
             println!("{title}");
             rows.into_iter().for_each(|(name, count)| row(name, count));

@@ -3,7 +3,9 @@
 
 use crate::byte_calls;
 use crate::changes::change;
+use crate::counts::is_active;
 use crate::numbers::*;
+use crate::order_calls;
 use crate::profile::Profile;
 use crate::random::Random;
 use crate::setup;
@@ -15,15 +17,19 @@ use reference::machine::{csr, Supervisor, MEMORY_WORDS};
 /// STATE is read often: it is where the record's oddities and the latest tick show.
 const READ_STATE: Call = [READ_REGISTER, Supervisor::STATE as u64, 0, 0];
 
-/// A step of a list: a call with one of the lent memories, or a record put in the place of the one that stands.
+/// A step of a list: a call with one of the lent memories, a record put in the place of the one that stands, or two
+/// writes in both orders, after which the list goes on from where it stood before them.
 #[derive(Clone)]
 pub enum Step {
     Call { memory: usize, call: Call },
     Put(Box<Record>),
+    Both { memory: usize, writes: [Call; 2] },
 }
 
 pub struct Maker {
     pub random: Random,
+    /// For pairs of writes alone, so that no other step depends on them.
+    pairs: Random,
     profile: Profile,
     /// Calls that are to come first, last one first.
     queued: Vec<Call>,
@@ -37,7 +43,9 @@ impl Maker {
         let mut random = Random::new(seed);
         let profile = Profile::new(&mut random);
         let length = random.pick(&[30, 100, 300, 600, 600, 2_000]);
-        let mut maker = Maker { random, profile, queued: Vec::new(), changed: None, length };
+        // Mixed first: of two seeds that are near, one gives the other's numbers, a few places on.
+        let pairs = Random::new(Random::new(!seed).wide());
+        let mut maker = Maker { random, pairs, profile, queued: Vec::new(), changed: None, length };
         maker.set_up();
         maker
     }
@@ -94,6 +102,16 @@ impl Maker {
             self.tick(record)
         };
         self.lent(call)
+    }
+
+    /// Now and then two writes for a record that stands so, more often where settings are taken. [Order.2]
+    pub fn both(&mut self, record: &Record) -> Option<Step> {
+        let of = if is_active(record) { 96 } else { 12 };
+        if !self.pairs.once_in(of) {
+            return None;
+        }
+        let memory = if self.pairs.once_in(4) { self.pairs.below(6) as usize } else { 0 };
+        Some(Step::Both { memory, writes: order_calls::writes(&mut self.pairs, record) })
     }
 
     /// A call on a record that was changed, or the one from before the change put back.

@@ -8,6 +8,7 @@ mod byte_counts;
 mod changes;
 mod clauses;
 mod counts;
+mod difference;
 mod faults;
 #[allow(dead_code, unused_parens)]
 mod faulty {
@@ -21,6 +22,9 @@ mod held_counts;
 mod lists;
 mod models;
 mod numbers;
+mod order_calls;
+mod order_counts;
+mod orders;
 mod owed_counts;
 mod pair;
 mod profile;
@@ -34,128 +38,88 @@ mod ticks;
 mod values;
 
 use counts::Counts;
+use difference::Difference;
 use lists::{Maker, Step};
 use models::{Faulty, Model};
 use numbers::*;
-use pair::Pair;
+use pair::{Done, Pair};
 use std::process::ExitCode;
 
 const DEFAULT_SEED: u64 = 1;
 const DEFAULT_CALLS: u64 = 20_000_000;
 const DEFAULT_SCRIPTS: u64 = 300;
 
-/// A list as it was run, and where the machines differ after its last step.
-struct Difference {
-    memories: Vec<Vec<u16>>,
+/// A list while it runs: both machines, and the steps and replies so far.
+struct Run<M: Machine> {
+    pair: Pair<M>,
     steps: Vec<Step>,
-    says: String,
+    replies: Vec<Reply>,
+}
+
+impl<M: Machine> Run<M> {
+    /// One step on both machines, and what it met.
+    fn step(&mut self, step: Step, counts: &mut Counts) -> Result<(), String> {
+        let (before, owed) = (self.pair.proved, owed_counts::owed(&self.pair));
+        self.steps.push(step);
+        let step = self.steps.last().expect("one was pushed");
+        match (self.pair.step(step)?, step) {
+            (Done::Reply(reply), Step::Call { call, .. }) => {
+                counts.add(&before, *call, &reply, &self.pair.proved, self.pair.account.is_some());
+                counts.owed.add(*call, &reply, owed, &self.pair);
+                self.replies.push(reply);
+            }
+            (Done::Both(orders), Step::Both { writes, .. }) => {
+                counts.calls += orders::CALLS;
+                counts.orders.add(&before, *writes, &orders);
+            }
+            _ => counts.forget(),
+        }
+        Ok(())
+    }
+
+    /// The whole list, with two writes in both orders behind some steps.
+    fn all(&mut self, maker: &mut Maker, counts: &mut Counts) -> Result<(), String> {
+        counts.forget();
+        for _ in 0..maker.length {
+            let step = maker.step(&self.pair.proved);
+            self.step(step, counts)?;
+            if let Some(both) = maker.both(&self.pair.proved) {
+                self.step(both, counts)?;
+            }
+        }
+        counts.lists += 1;
+        Ok(())
+    }
+
+    /// Once more in one piece, so that no record passes through numbers between the calls.
+    fn again(&self, memories: &[Vec<u16>], counts: &mut Counts) -> Result<(), String> {
+        let kept = self.steps.iter().filter(|step| !matches!(step, Step::Both { .. }));
+        let one_piece = |step: &Step| match step {
+            Step::Call { memory: 0, call } => Some(*call),
+            _ => None,
+        };
+        let Some(calls) = kept.map(one_piece).collect::<Option<Vec<Call>>>() else { return Ok(()) };
+        let mut record = FRESH;
+        let mut memory = memories[0].clone();
+        let mut again = vec![[0; 8]; calls.len()];
+        proved(&mut record, &mut memory, &calls, &mut again);
+        if again != self.replies || record != self.pair.proved || memory != self.pair.memories[0] {
+            return Err("the proved library, in one piece and call by call".into());
+        }
+        counts.whole += calls.len() as u64;
+        Ok(())
+    }
 }
 
 /// Makes and runs the list of a seed.
 fn run_list<M: Machine>(seed: u64, counts: &mut Counts) -> Result<(), Difference> {
     let mut maker = Maker::new(seed);
     let memories = maker.memories();
-    let mut pair = Pair::<M>::new(&memories);
-    let mut steps = Vec::with_capacity(maker.length);
-    let mut replies = Vec::with_capacity(maker.length);
-    counts.forget();
-    for _ in 0..maker.length {
-        let step = maker.step(&pair.proved);
-        let (before, owed) = (pair.proved, owed_counts::owed(&pair));
-        steps.push(step);
-        let step = steps.last().expect("one was pushed");
-        match pair.step(step) {
-            Err(says) => return Err(Difference { memories, steps, says }),
-            Ok(None) => counts.forget(),
-            Ok(Some(reply)) => {
-                let Step::Call { call, .. } = *step else { continue };
-                counts.add(&before, call, &reply, &pair.proved, pair.account.is_some());
-                counts.owed.add(call, &reply, owed, &pair);
-                replies.push(reply);
-            }
-        }
-    }
-    counts.lists += 1;
-    // Once more in one piece, so that no record passes through numbers between the calls.
-    let calls: Option<Vec<Call>> = steps
-        .iter()
-        .map(|step| match step {
-            Step::Call { memory: 0, call } => Some(*call),
-            _ => None,
-        })
-        .collect();
-    if let Some(calls) = calls {
-        let mut record = FRESH;
-        let mut memory = memories[0].clone();
-        let mut again = vec![[0; 8]; calls.len()];
-        proved(&mut record, &mut memory, &calls, &mut again);
-        if again != replies || record != pair.proved || memory != pair.memories[0] {
-            return Err(Difference {
-                memories,
-                steps,
-                says: "the proved library, in one piece and call by call".into(),
-            });
-        }
-        counts.whole += calls.len() as u64;
-    }
-    Ok(())
-}
-
-/// Whether these steps still show a difference, and which.
-fn differs<M: Machine>(memories: &[Vec<u16>], steps: &[Step]) -> Option<String> {
-    let mut pair = Pair::<M>::new(memories);
-    steps.iter().find_map(|step| pair.step(step).err())
-}
-
-/// Leaves steps out as long as the difference stays.
-fn shrink<M: Machine>(difference: &mut Difference) {
-    let mut size = difference.steps.len() / 2;
-    while size > 0 {
-        let mut start = 0;
-        while start < difference.steps.len() {
-            let mut fewer = difference.steps.clone();
-            fewer.drain(start..(start + size).min(fewer.len()));
-            match differs::<M>(&difference.memories, &fewer) {
-                Some(says) => {
-                    difference.says = says;
-                    difference.steps = fewer;
-                }
-                None => start += size,
-            }
-        }
-        size /= 2;
-    }
-}
-
-fn print_difference(difference: &Difference) {
-    println!("DIFFERENCE in {}", difference.says);
-    println!("after these calls from a fresh record:");
-    for step in &difference.steps {
-        match step {
-            Step::Put(record) => {
-                let fields: Vec<String> =
-                    (0..RECORD).filter(|&i| record[i] != 0).map(|i| format!("{} {:X}", FIELDS[i], record[i])).collect();
-                println!("  record put in, all 0 but: {}", fields.join(", "));
-            }
-            Step::Call { memory, call: [kind, a, b, c] } => {
-                let name = KINDS[*kind as usize];
-                let words = &difference.memories[*memory];
-                let word = words.get(*a as usize).map_or("none".into(), |word| format!("{word:04X}"));
-                match *kind {
-                    WRITE_REGISTER => println!("  {name} {a:02X} {b:08X}"),
-                    READ_REGISTER => println!("  {name} {a:02X}"),
-                    WRITE_BYTES => println!("  {name} {a:02X} {b:08X}, first and count {:X?}", unpacked(*c)),
-                    READ_BYTES => println!("  {name} {a:02X}, first and count {:X?}", unpacked(*c)),
-                    WRITE_MEMORY => println!("  {name} {a:03X} {b:04X} ({} words)", words.len()),
-                    READ_MEMORY => println!("  {name} {a:03X} ({} words)", words.len()),
-                    TICK => println!(
-                        "  {name} {a:03X} {b:02X} {c:08X} ({} words, first of them at this place {word})",
-                        words.len()
-                    ),
-                    _ => println!("  {name}"),
-                }
-            }
-        }
+    let (steps, replies) = (Vec::with_capacity(maker.length), Vec::with_capacity(maker.length));
+    let mut run = Run::<M> { pair: Pair::new(&memories), steps, replies };
+    match run.all(&mut maker, counts).and_then(|()| run.again(&memories, counts)) {
+        Err(says) => Err(Difference { memories, steps: run.steps, says }),
+        Ok(()) => Ok(()),
     }
 }
 
@@ -168,8 +132,8 @@ fn compare(seed: u64, calls: u64) -> ExitCode {
     while counts.calls < calls {
         if let Err(mut difference) = run_list::<Model>(seed.wrapping_mul(1_000_003).wrapping_add(list), &mut counts) {
             println!("seed {seed}, list {list}, after {} calls", counts.calls);
-            shrink::<Model>(&mut difference);
-            print_difference(&difference);
+            difference.shrink::<Model>();
+            difference.print();
             return ExitCode::FAILURE;
         }
         list += 1;
@@ -212,7 +176,7 @@ fn find_faults(seed: u64, calls: u64) -> ExitCode {
                 Ok(Ok(())) => list += 1,
                 Ok(Err(mut difference)) => {
                     let shrunk = std::panic::AssertUnwindSafe(|| {
-                        shrink::<Faulty>(&mut difference);
+                        difference.shrink::<Faulty>();
                         difference
                     });
                     break Some(std::panic::catch_unwind(shrunk).ok());

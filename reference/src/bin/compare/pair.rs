@@ -4,6 +4,14 @@ use crate::accounts::Account;
 use crate::lists::Step;
 use crate::models::{answer_of, Model};
 use crate::numbers::*;
+use crate::orders::{self, Orders};
+
+/// What a step gave.
+pub enum Done {
+    Put,
+    Reply(Reply),
+    Both(Orders),
+}
 
 /// The two machines beside each other, with the account that goes with the second.
 pub struct Pair<M: Machine> {
@@ -29,41 +37,36 @@ impl<M: Machine> Pair<M> {
         }
     }
 
-    /// One step on both; says where they differ.
-    pub fn step(&mut self, step: &Step) -> Result<Option<Reply>, String> {
-        let (memory, call) = match step {
+    /// One step on both; says where they differ. Two writes in both orders leave all as it stands.
+    pub fn step(&mut self, step: &Step) -> Result<Done, String> {
+        match step {
             Step::Put(record) => {
                 self.proved = **record;
                 self.model = **record;
                 self.account = None;
-                return Ok(None);
+                Ok(Done::Put)
             }
-            Step::Call { memory, call } => (*memory, *call),
-        };
+            Step::Call { memory, call } => self.call(*memory, *call).map(Done::Reply),
+            Step::Both { memory, writes } => {
+                orders::run::<M>(&self.proved, &self.memories[*memory], *writes).map(Done::Both)
+            }
+        }
+    }
+
+    fn call(&mut self, memory: usize, call: Call) -> Result<Reply, String> {
         let before = self.proved;
         let mut replies = [[0; 8]];
         proved(&mut self.proved, &mut self.memories[memory], &[call], &mut replies);
         let [reply] = replies;
         let other = M::call(&mut self.model, &mut self.model_memories[memory], call);
-        if reply != other {
-            return Err(format!("replies: proved {reply:X?}, model {other:X?}"));
-        }
-        if self.proved != self.model {
-            let fields: Vec<String> = (0..RECORD)
-                .filter(|&i| self.proved[i] != self.model[i])
-                .map(|i| format!("{}: proved {:X}, model {:X}", FIELDS[i], self.proved[i], self.model[i]))
-                .collect();
-            return Err(format!("records: {}", fields.join("; ")));
-        }
-        if self.memories[memory] != self.model_memories[memory] {
-            return Err("memories".into());
-        }
+        let memories = [&self.memories[memory][..], &self.model_memories[memory][..]];
+        agree([&reply, &other], [&self.proved, &self.model], memories)?;
         // [Declines.1b] a declined call leaves the record, but for the status bit of decline 4.
         if !matches!(reply[0], 0 | 4) && self.proved != before {
             return Err("a declined call changed the record on both sides".into());
         }
         self.keep_account(call, &reply)?;
-        Ok(Some(reply))
+        Ok(reply)
     }
 
     fn keep_account(&mut self, call: Call, reply: &Reply) -> Result<(), String> {
@@ -86,4 +89,26 @@ impl<M: Machine> Pair<M> {
         }
         account.check(&Model::of(&self.proved)).map_err(|says| format!("the account: {says}"))
     }
+}
+
+/// Says where the proved library and the model differ after a call, the library first.
+pub fn agree(replies: [&Reply; 2], records: [&Record; 2], memories: [&[u16]; 2]) -> Result<(), String> {
+    if replies[0] != replies[1] {
+        return Err(format!("replies: proved {:X?}, model {:X?}", replies[0], replies[1]));
+    }
+    if records[0] != records[1] {
+        return Err(format!("records: {}", fields(["proved", "model"], records)));
+    }
+    if memories[0] != memories[1] {
+        return Err("memories".into());
+    }
+    Ok(())
+}
+
+/// The fields in which two records differ.
+pub fn fields(names: [&str; 2], records: [&Record; 2]) -> String {
+    let [one, other] = records;
+    let field = |i: usize| format!("{}: {} {:X}, {} {:X}", FIELDS[i], names[0], one[i], names[1], other[i]);
+    let fields: Vec<String> = (0..RECORD).filter(|&i| one[i] != other[i]).map(field).collect();
+    fields.join("; ")
 }
