@@ -10,8 +10,9 @@ fn main() {
     println!("cargo:rerun-if-changed=src/machine");
     println!("cargo:rerun-if-changed=src/account.rs");
     println!("cargo:rerun-if-changed=src/bin/compare/fault_list.rs");
-    let machine =
-        ["call", "tick", "request", "state", "kept", "byte", "latch", "test", "force", "held", "mode", "speed"];
+    let machine = [
+        "call", "tick", "request", "state", "kept", "byte", "latch", "test", "force", "held", "mode", "speed", "order",
+    ];
     for part in machine.into_iter().chain(["account"]) {
         println!("cargo:rerun-if-changed=src/bin/compare/{part}_faults.rs");
     }

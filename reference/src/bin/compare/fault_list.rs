@@ -26,10 +26,11 @@ include!("force_faults.rs");
 include!("held_faults.rs");
 include!("mode_faults.rs");
 include!("speed_faults.rs");
+include!("order_faults.rs");
 include!("account_faults.rs");
 
 /// Those of the machine, in order.
-const MACHINE_FAULTS: [&[Fault]; 12] = [
+const MACHINE_FAULTS: [&[Fault]; 13] = [
     CALL_FAULTS,
     TICK_FAULTS,
     REQUEST_FAULTS,
@@ -42,6 +43,7 @@ const MACHINE_FAULTS: [&[Fault]; 12] = [
     HELD_FAULTS,
     MODE_FAULTS,
     SPEED_FAULTS,
+    ORDER_FAULTS,
 ];
 
 /// All of them with their numbers, from 1: the machine's, then the account's.
