@@ -43,7 +43,7 @@ pub(super) const NO_RUNS: [(u32, u32); 20] = [
 ];
 
 /// A register of each kind: what stands there, and what is written over it. Any bytes of both are taken together.
-const KINDS: [(u32, u32, u32); 17] = [
+pub(super) const KINDS: [(u32, u32, u32); 17] = [
     (Supervisor::CONTROL, 0x8AAA, 0x1555),
     (Supervisor::FACTOR_1, 0xA_5A5A, 0x5_A5A5),
     (3, 0xF_FFFF, 0),

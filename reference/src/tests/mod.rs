@@ -17,6 +17,8 @@ mod four_branches;
 mod front_space_clear;
 mod held_clock;
 mod latches;
+mod order;
+mod order_differs;
 mod owed;
 mod plain;
 mod plain_bytes;

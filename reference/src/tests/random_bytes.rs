@@ -39,7 +39,7 @@ pub(super) fn random_value(random: &mut Random, number: u32) -> u32 {
 }
 
 /// A random record, in half of the cases an inactive one.
-fn some_record(random: &mut Random) -> Supervisor {
+pub(super) fn some_record(random: &mut Random) -> Supervisor {
     let mut record = random_record(random);
     if random.flip() {
         record.csr &= !0xF;
