@@ -43,8 +43,7 @@ impl Maker {
         let mut random = Random::new(seed);
         let profile = Profile::new(&mut random);
         let length = random.pick(&[30, 100, 300, 600, 600, 2_000]);
-        // Mixed first: of two seeds that are near, one gives the other's numbers, a few places on.
-        let pairs = Random::new(Random::new(!seed).wide());
+        let pairs = Random::new(!seed);
         let mut maker = Maker { random, pairs, profile, queued: Vec::new(), changed: None, length };
         maker.set_up();
         maker

@@ -3,8 +3,9 @@
 pub struct Random(u64);
 
 impl Random {
+    /// The seed is mixed first: of two that are near, one would give the other's numbers, a few places on.
     pub fn new(seed: u64) -> Random {
-        Random(seed.wrapping_add(1).wrapping_mul(0x9E37_79B9_7F4A_7C15) | 1)
+        Random(Random(seed).wide())
     }
 
     pub fn wide(&mut self) -> u64 {
