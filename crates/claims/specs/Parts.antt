@@ -1,6 +1,6 @@
 -- What is claimed of the parts, each by itself and for every value of its types: the rules of document 01 that a part keeps
--- whatever stands around it; those of document 02 are in Requests, Bytes and TestMode. proofs/PartsProved.antt proves each by
--- citing its law.
+-- whatever stands around it; those of document 02 are in Requests, Bytes, TestMode and Order. proofs/PartsProved.antt proves
+-- each by citing its law.
 -- Assumes nothing.
 use Prim.Native.Nat.{ℕ, _+_, _/_, _^_, _<_, _≤_}
 use mathlib.Core.Path.{_≡_}
