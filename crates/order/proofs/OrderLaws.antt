@@ -5,7 +5,7 @@
 -- Assumes nothing.
 use Prim.Native.Nat.{ℕ}
 use mathlib.Core.Path.{_≡_, refl, sym, ap, ap₂, _∙_}
-use mathlib.Core.Bool.{Bool, true, false, not, false≢true}
+use mathlib.Core.Bool.{true, not, false≢true}
 use mathlib.Core.List.{List, [], _∷_, _++_}
 use lib.Dec.{eqb}
 use borrow.Author.Tests.{not-true, eqb-false}
@@ -16,7 +16,7 @@ use Rattle.declines.specs.Answers.{Reply}
 use Rattle.declines.specs.Runs.{Ask, writeRegister, readRegister, writeMemory, readMemory, tick, Session, replyTo, after}
 use Rattle.order.specs.EitherOrder.{afterAll, repliesFrom, EitherOrder, isSettingNumber}
 use Rattle.order.specs.EitherOrder.{Target, setting, place, none, targetOf, areApart, isApartFrom, scriptsAreApart}
-use Rattle.order.proofs.WriteEnds.{Write, kindOf, replyOf, number, ended, write-ends}
+use Rattle.order.proofs.WriteEnds.{kindOf, replyOf, number, ended, write-ends}
 use Rattle.order.proofs.WriteLaws.{Apart, settings, places, settingAndPlace, placeAndSetting, apart-back}
 use Rattle.order.proofs.WriteLaws.{first-writes, number-stands, ended-commute}
 

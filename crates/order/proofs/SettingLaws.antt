@@ -7,7 +7,6 @@
 use Prim.Native.Nat.{ℕ}
 use mathlib.Core.Path.{_≡_, refl, ap}
 use mathlib.Core.Bool.{Bool}
-use Rattle.registers.specs.declared.csr.Csr.{Csr}
 use Rattle.registers.specs.declared.register.Setting.{Setting}
 use Rattle.registers.specs.declared.register.Setting.the-variants.{Control, Factor, RocEnable, Interval, Timer}
 use Rattle.registers.proofs.RegistersLaws.{SettingInRange}

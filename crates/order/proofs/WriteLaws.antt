@@ -7,9 +7,9 @@
 -- Assumes nothing.
 use Prim.Native.Nat.{ℕ}
 use mathlib.Core.Path.{_≡_, refl, sym, ap, _∙_}
-use mathlib.Core.Bool.{Bool, true, false, not, _&&_, _||_}
+use mathlib.Core.Bool.{Bool, true, false}
 use lib.Dec.{eqb, lit<}
-use lib.ListN.{length, set, length-set}
+use lib.ListN.{length, length-set}
 use lib.Seq.{set-comm}
 use borrow.Author.Tests.{eqb-true}
 use Rattle.run.specs.Run.{hasByte3, overlaidOf}
@@ -17,12 +17,10 @@ use Rattle.run.specs.declared.Run.{Run}
 use Rattle.registers.specs.Csr as csr
 use Rattle.registers.proofs.CsrLaws.{marked-keeps-low}
 use Rattle.registers.specs.Registers.{numberedOf}
-use Rattle.registers.specs.declared.register.Register.{Register}
-use Rattle.registers.specs.declared.register.Setting.{Setting}
 use Rattle.registers.proofs.RegistersLaws.{SettingAt, settingNumber}
 use Rattle.supervisor.specs.Supervisor.{isActiveOf, isSpoiledOf}
 use Rattle.supervisor.specs.declared.Supervisor.{Supervisor}
-use Rattle.access.specs.Access.{settingWrittenOf, settingOf, writtenOf, baseOf}
+use Rattle.access.specs.Access.{settingOf, writtenOf, baseOf}
 use Rattle.declines.specs.Calls.{markedOf}
 use Rattle.declines.specs.Runs.{Ask, writeRegister, writeMemory, Session, session, after}
 use Rattle.reach.proofs.Sound.{unspoiled-from-test, unspoiled-to-test}
@@ -30,7 +28,7 @@ use Rattle.reach.proofs.WriteSound.{marked-keeps-unspoiled, write-keeps-unspoil
 use Rattle.order.proofs.SettingLaws.{Other, other-setting, written-keeps-active, written-keeps-csr}
 use Rattle.order.proofs.SettingLaws.{marked-keeps-setting, marked-keeps-written}
 use Rattle.order.proofs.WriteEnds.{Write, setting, place, Kind, carries, marks, refuses, kindBy, kindOf, number, merged}
-use Rattle.order.proofs.WriteEnds.{carriedOut, marked, ended, Takes, EndsBy, write-ends}
+use Rattle.order.proofs.WriteEnds.{carriedOut, marked, ended, Takes, write-ends}
 
 -- two writes that do not set the same
 pub data Apart : Ask → Ask → Type 0 where
