@@ -5,6 +5,7 @@ pub mod BlindExamples
 pub mod StateExamples
 pub mod BytesExamples
 pub mod TestExamples
+pub mod FillExamples
 pub mod Script
 pub mod Misreadings
 pub mod SessionsLaws

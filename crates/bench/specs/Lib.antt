@@ -8,3 +8,4 @@ pub mod Bytes
 pub mod TestAsks
 pub mod TestMode
 pub mod Hold
+pub mod Fill

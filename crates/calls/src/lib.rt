@@ -1,10 +1,12 @@
-// The public calls (document 01, "When a call is declined"; document 02, N4, N5). Each takes the record by value, refuses bad
+// The public calls (document 01, "When a call is declined"; document 02, N4, N5, N7). Each takes the record by value, refuses bad
 // input by itself, and hands back the next record with its answer. No call has a `requires`; each contract is an equality
-// with a definition of crate `declines`, for every record and every memory; `write_memory` has one more, for the memory.
+// with a definition of crate `declines`, for every record and every memory; `write_memory` and `fill_memory` have one more, for
+// the memory.
 ghost use mathlib.Core.Path.{_≡_};
 ghost use Rattle.declines.specs.Calls.{isGuardedOf};
 ghost use Rattle.declines.specs.Calls.{writeRunOf, readRunOf, writeRegisterOf, readRegisterOf, writeBytesOf, readBytesOf};
 ghost use Rattle.declines.specs.Calls.{writeMemoryOf, memoryAfterOf, readMemoryOf, tickOf};
+ghost use Rattle.declines.specs.Fill.{fillMemoryOf, memoryFilledOf};
 use access::after_read;
 use access::merged;
 use access::shown;
@@ -15,6 +17,9 @@ use declines::BytesReading;
 use declines::BytesVerdict;
 use declines::BytesWriteDone;
 use declines::Decline;
+use declines::FillDecline;
+use declines::FillDone;
+use declines::FillVerdict;
 use declines::ReadDone;
 use declines::Reading;
 use declines::TickDone;
@@ -32,6 +37,7 @@ use refusals::by_bytes;
 use refusals::marked;
 use refusals::read_by_bytes;
 use refusals::refused;
+use refusals::refused_fill;
 use refusals::refused_read;
 use refusals::refused_tick;
 
@@ -207,6 +213,33 @@ pub fn read_memory(s: Supervisor, memory: &[u16], place: u32) -> ReadDone
     ReadDone {
         next: s,
         answer: Reading::Value(wide(memory[at])),
+    }
+}
+
+// [Table.4] [Table.8a] [Table.8b] every place, from twelve words, one for each input
+pub fn fill_memory(s: Supervisor, memory: &mut [u16], words: [u16; 12]) -> FillDone
+    ensures { λ r. ⌜ r ≡ fillMemoryOf (now (memory .entry)) words s ⌝ }
+    ensures { λ r. ⌜ now (memory .exit) ≡ memoryFilledOf (now (memory .entry)) words s ⌝ }
+{
+    if s.is_spoiled() {
+        return refused_fill(s, FillDecline::Plain(Decline::Spoiled));
+    }
+    if memory.len() != MEMORY_PLACES {
+        return refused_fill(s, FillDecline::Plain(Decline::Length));
+    }
+    if s.is_active() {
+        return refused_fill(
+            marked(s, Csr::WRITE_ERROR),
+            FillDecline::Plain(Decline::Active),
+        );
+    }
+    if !table::are_taken(words) {
+        return refused_fill(s, FillDecline::BadWord);
+    }
+    table::fill(memory, words);
+    FillDone {
+        next: s,
+        answer: FillVerdict::Done,
     }
 }
 

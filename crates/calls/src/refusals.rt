@@ -1,11 +1,15 @@
 // How the public calls refuse: the record as it is, or with a status bit set, and why.
 ghost use mathlib.Core.Path.{_≡_};
 ghost use Rattle.declines.specs.Calls.{markedOf, refuse, refuseRead, refuseTick, bytesWriteOf, bytesReadOf};
+ghost use Rattle.declines.specs.Fill.{refuseFill};
 use branch::Slot;
 use branches::Side;
 use declines::BytesReadDone;
 use declines::BytesWriteDone;
 use declines::Decline;
+use declines::FillDecline;
+use declines::FillDone;
+use declines::FillVerdict;
 use declines::ReadDone;
 use declines::Reading;
 use declines::TickDone;
@@ -43,6 +47,15 @@ pub fn refused_read(s: Supervisor, why: Decline) -> ReadDone
     ReadDone {
         next: s,
         answer: Reading::Declined(why),
+    }
+}
+
+pub fn refused_fill(s: Supervisor, why: FillDecline) -> FillDone
+    ensures { λ r. ⌜ r ≡ refuseFill why s ⌝ }
+{
+    FillDone {
+        next: s,
+        answer: FillVerdict::Declined(why),
     }
 }
 

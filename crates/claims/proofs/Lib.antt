@@ -6,3 +6,4 @@ pub mod RequestsProved
 pub mod BytesProved
 pub mod TestModeProved
 pub mod OrderProved
+pub mod TableProved

@@ -2,7 +2,8 @@
 -- Assumes nothing.
 use Rattle.branches.specs.Readout.{moduleBranches}
 use Rattle.declines.specs.Runs.{freshSession}
-use Rattle.declines.proofs.CallsLaws.{declines-in-order, refusal-leaves, refusal-leaves-memory, spoiled-declines-all}
+use Rattle.declines.proofs.DeclinesLaws.{declines-in-order}
+use Rattle.declines.proofs.CallsLaws.{refusal-leaves, refusal-leaves-memory, spoiled-declines-all}
 use Rattle.account.proofs.Theorem.{every-run-balances, any-two-branches}
 use Rattle.reach.proofs.Never.{call-keeps-unspoiled, never-spoiled}
 use Rattle.bench.proofs.Examples.{bench-examples}

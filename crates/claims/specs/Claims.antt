@@ -11,6 +11,7 @@
 --     read_bytes             declines/specs/Calls, readBytesOf
 --     write_memory           declines/specs/Calls, writeMemoryOf, and memoryAfterOf for the memory after it
 --     read_memory            declines/specs/Calls, readMemoryOf; the memory is lent for reading only
+--     fill_memory            declines/specs/Fill, fillMemoryOf, and memoryFilledOf for the memory after it
 --     tick                   declines/specs/Calls, tickOf; the memory is lent for reading only
 -- The console's contract is proved in `script`, for every script:
 --     answers                script/specs/Script, answersOf: the bytes printed, which always fit; the rest of the buffer

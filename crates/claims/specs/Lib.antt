@@ -5,3 +5,4 @@ pub mod Requests
 pub mod Bytes
 pub mod TestMode
 pub mod Order
+pub mod Table

@@ -3,6 +3,7 @@
 ghost use mathlib.Core.Path.{_≡_};
 ghost use Prim.Native.Nat.{_≤_};
 ghost use Rattle.declines.specs.Answers.{declineNumber, bytesDeclineNumber, bytesVerdictOf, bytesReadingOf};
+ghost use Rattle.declines.specs.Answers.{fillDeclineNumber};
 use supervisor::Answer;
 use supervisor::Supervisor;
 
@@ -76,6 +77,33 @@ pub enum BytesReading {
     Declined(BytesDecline),
 }
 
+// Why a fill of the memory is declined: as a memory write is, or one of the words is not taken.
+pub enum FillDecline {
+    Plain(Decline),
+    BadWord,
+}
+
+impl FillDecline {
+    // [Table.8b]
+    pub const BAD_WORD: u8 = 8;
+
+    // [Declines.1a] [Table.8b] the documents' number
+    pub fn number(self) -> u8
+        ensures { λ r. ⌜ r ≡ fillDeclineNumber self ⌝ }
+    {
+        match self {
+            FillDecline::Plain(why) => why.number(),
+            FillDecline::BadWord => FillDecline::BAD_WORD,
+        }
+    }
+}
+
+// The answer to a fill of the memory.
+pub enum FillVerdict {
+    Done,
+    Declined(FillDecline),
+}
+
 impl Verdict {
     // a plain write's answer, as the answer to a write by a run
     pub fn by_bytes(self) -> BytesVerdict
@@ -118,6 +146,11 @@ pub struct BytesWriteDone {
 pub struct BytesReadDone {
     pub next: Supervisor,
     pub answer: BytesReading,
+}
+
+pub struct FillDone {
+    pub next: Supervisor,
+    pub answer: FillVerdict,
 }
 
 pub struct TickDone {

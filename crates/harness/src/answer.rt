@@ -6,6 +6,8 @@ use declines::BytesReadDone;
 use declines::BytesReading;
 use declines::BytesVerdict;
 use declines::BytesWriteDone;
+use declines::FillDone;
+use declines::FillVerdict;
 use declines::ReadDone;
 use declines::Reading;
 use declines::TickDone;
@@ -100,6 +102,15 @@ pub fn bytes_read_reply(r: BytesReadDone) -> Reply {
     match answer {
         BytesReading::Value(value) => short_reply(next, 0, value),
         BytesReading::Declined(why) => short_reply(next, why.number() as u64, 0)
+    }
+}
+
+pub fn fill_reply(r: FillDone) -> Reply {
+    let next = r.next;
+    let answer = r.answer;
+    match answer {
+        FillVerdict::Done => short_reply(next, 0, 0),
+        FillVerdict::Declined(why) => short_reply(next, why.number() as u64, 0)
     }
 }
 

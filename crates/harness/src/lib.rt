@@ -13,6 +13,7 @@ mod answer;
 use answer::Reply;
 use answer::bytes_read_reply;
 use answer::bytes_write_reply;
+use answer::fill_reply;
 use answer::fresh_reply;
 use answer::read_reply;
 use answer::tick_reply;
@@ -35,8 +36,31 @@ fn run_of(n: u64) -> Run {
     }
 }
 
+// The word of an input in a number that holds four, the first of them lowest.
+fn short_of(n: u64, at: u32) -> u16 {
+    ((n >> (at % 4 * 16)) % 65536) as u16
+}
+
+// Twelve words, one for each input: four in each number.
+fn words_of(a: u64, b: u64, c: u64) -> [u16; 12] {
+    [
+        short_of(a, 0),
+        short_of(a, 1),
+        short_of(a, 2),
+        short_of(a, 3),
+        short_of(b, 0),
+        short_of(b, 1),
+        short_of(b, 2),
+        short_of(b, 3),
+        short_of(c, 0),
+        short_of(c, 1),
+        short_of(c, 2),
+        short_of(c, 3),
+    ]
+}
+
 // One call: 0 register write, 1 register read, 2 memory write, 3 memory read, 4 tick, 6 and 7 register write and read by a
-// run of bytes, any other fresh.
+// run of bytes, 8 a fill of the memory, any other fresh.
 fn reply_to(s: Supervisor, memory: &mut [u16], kind: u64, a: u64, b: u64, c: u64) -> Reply {
     if kind == 0 {
         return write_reply(calls::write_register(s, word_of(a), word_of(b)));
@@ -62,6 +86,9 @@ fn reply_to(s: Supervisor, memory: &mut [u16], kind: u64, a: u64, b: u64, c: u64
     }
     if kind == 7 {
         return bytes_read_reply(calls::read_bytes(s, word_of(a), run_of(c)));
+    }
+    if kind == 8 {
+        return fill_reply(calls::fill_memory(s, memory, words_of(a, b, c)));
     }
     fresh_reply()
 }
