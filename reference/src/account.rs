@@ -1,12 +1,10 @@
 //! The account of demand 3, kept from calls and answers alone. [Account.1]–[Account.18] [Bytes.10a] [Bytes.10b]
 //! [Test.9]
 //!
-//! Only register writes and ticks are told to it; reads and memory writes leave it alone. [Account.5]
+//! Only register writes and ticks are told to it; reads, memory writes and the generator leave it alone. [Account.5]
 
+pub use crate::machine::INPUTS;
 use crate::machine::{csr, test, Answer, MainState, Outcome, Supervisor, BRANCHES, PLACES};
-
-/// The inputs, with or without a prescaler.
-pub const INPUTS: usize = 12;
 
 /// What is added up for one input. [Account.11] [Account.12]
 #[derive(Clone, Copy, Debug, Default, PartialEq, Eq)]

@@ -16,8 +16,9 @@ impl Supervisor {
         Ok(memory[place])
     }
 
-    /// The declines that memory write and read share; `error` is the status bit that decline 4 sets.
-    fn memory_place(&mut self, words: usize, place: u32, error: u32) -> Result<usize, u8> {
+    /// The declines that memory write and read share, and the generator; `error` is the status bit that decline 4 sets.
+    /// [Table.8a]
+    pub(super) fn memory_place(&mut self, words: usize, place: u32, error: u32) -> Result<usize, u8> {
         self.not_spoiled()?;
         if words != MEMORY_WORDS {
             return Err(decline::LENGTH);

@@ -12,6 +12,7 @@ mod pulses;
 mod registers;
 mod spoiled;
 mod state;
+mod table;
 mod test_mode;
 mod tick;
 

@@ -1,5 +1,5 @@
-//! The numbers and bits that have names: declines, registers, assign codes, test bits, lines, words of a queue, and the
-//! sizes.
+//! The numbers and bits that have names: declines, registers, assign codes, test bits, lines, words of the memory and
+//! of a queue, and the sizes.
 
 /// The numbers with which a call is declined. [Declines.1a]
 pub mod decline {
@@ -17,6 +17,8 @@ pub mod decline {
     pub const FORM: u8 = 6;
     /// A run of bytes that is empty or leaves the four; never from a plain call. [Bytes.11]
     pub const RUN: u8 = 7;
+    /// A word for the generator without level 1 OK or without exactly one class. [Table.8b]
+    pub const WORD: u8 = 8;
 }
 
 /// Bits of the CSR. [CSR.1] [CSR.2] [CSRWrite.1] [Test.1]
@@ -144,6 +146,16 @@ pub mod line_out {
     pub const ACCEPT_PATTERN_SHIFT: u32 = 8;
 }
 
+/// Bits of a memory word. [Memory.2]
+pub mod entry {
+    pub const LEVEL_1_OK: u16 = 1 << 0;
+    /// Bits 1–3 are classes 1–3.
+    pub const CLASSES: u16 = 0x000E;
+    /// Level 1 OK, class and code: bits 0–7.
+    pub const LOW: u16 = 0x00FF;
+    pub const ACCEPT_PATTERN: u16 = 0xFF00;
+}
+
 /// Bits of a word in a branch's queue. [Main.9]
 pub mod word {
     pub const CODE: u8 = 0x0F;
@@ -154,6 +166,8 @@ pub mod word {
     pub const TAG: u8 = SYNC;
 }
 
+/// The inputs, with or without a prescaler. [Tick.1]
+pub const INPUTS: usize = 12;
 /// The twelve trigger bits. [Tick.1]
 pub const TRIGGER_BITS: u32 = 0xFFF;
 /// Words of the lent memory. [Memory.1]

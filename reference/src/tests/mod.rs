@@ -34,6 +34,8 @@ mod spoiled;
 mod state;
 mod state_calls;
 mod syncs;
+mod table;
+mod table_declines;
 mod test_account;
 mod test_lists;
 mod test_mode;

@@ -1,12 +1,15 @@
-//! Nanoseconds and instructions of a tick: the proved library's public tick beside the model's, in one program.
+//! Time and instructions of a tick and of a fill of the memory: the proved library's public calls beside the model's, in
+//! one program.
 //!
 //! Both run the same loop over the same table of inputs and fold every field of every answer into a sum; the two sums
-//! must be equal. Settings come from the table, so that the compiler knows none of them.
+//! must be equal. Settings come from the table, so that the compiler knows none of them. Two memories that were filled
+//! must be equal too.
 
+mod fills;
 mod sides;
 mod traffic;
 
-use reference::machine::{Supervisor, MEMORY_WORDS};
+use reference::machine::{self, Supervisor, MEMORY_WORDS};
 use sides::SIDES;
 use std::hint::black_box;
 use std::process::ExitCode;
@@ -58,9 +61,12 @@ mod layout {
 
 /// One line: both times and their ratio; no, if the sums differ.
 fn line(name: &str, runs: usize, ticks: u64, memory: &[u16], table: &[u64]) -> Option<()> {
-    let [proved, model] = best(runs, ticks, memory, table)?;
-    println!("  {name:<14} proved {proved:6.1}   model {model:6.1}   ratio {:.2}", proved / model);
+    print_times(name, best(runs, ticks, memory, table)?);
     Some(())
+}
+
+fn print_times(name: &str, [proved, model]: [f64; 2]) {
+    println!("  {name:<14} proved {proved:6.1}   model {model:6.1}   ratio {:.2}", proved / model);
 }
 
 fn times(runs: usize) -> Option<()> {
@@ -84,12 +90,17 @@ fn times(runs: usize) -> Option<()> {
     }
     println!("with all inputs, main and all branches moving at every tick");
     line("all moving", runs, once, &moving_memory(), &moving())?;
+    println!("microseconds of a fill of the memory, best of {runs} runs of {} fills by turns", fills::FILLS);
+    print_times("fill", fills::best(runs)?);
     println!("bytes of a record: proved {}, model {}", size_of::<layout::Supervisor>(), size_of::<Supervisor>());
     Some(())
 }
 
-/// What `./bench` runs under callgrind: some ticks of one side.
+/// What `./bench` runs under callgrind: some ticks or fills of one side.
 fn count(side: &str, traffic: &str, ticks: u64) -> Option<()> {
+    if traffic == "fill" {
+        return count_fills(side, ticks as usize);
+    }
     let (_, run) = SIDES.iter().find(|(name, _)| *name == side)?;
     let (memory, table) = match KINDS.into_iter().find(|kind| kind.name == traffic) {
         Some(kind) => (memory(), table(kind)),
@@ -98,6 +109,15 @@ fn count(side: &str, traffic: &str, ticks: u64) -> Option<()> {
     };
     let sum = run(black_box(ticks), &memory, &table);
     println!("{side} {traffic} {ticks} {sum:016X}");
+    Some(())
+}
+
+/// At most `fills::FILLS`: the same words are made for any number of fills.
+fn count_fills(side: &str, count: usize) -> Option<()> {
+    let (_, run) = fills::SIDES.iter().find(|(name, _)| *name == side)?;
+    let (words, mut memory) = (fills::words(), fills::memory());
+    let declined = run(&mut memory, black_box(words.get(..count.checked_mul(machine::INPUTS)?)?));
+    println!("{side} fill {count} {declined} {:04X}", memory[MEMORY_WORDS - 1]);
     Some(())
 }
 

@@ -5,10 +5,14 @@ use reference::machine::MEMORY_WORDS;
 /// Inputs of the table; the registers 0–21 stand after them, STATE as 0.
 pub const INPUTS: usize = 16_384;
 
-struct Random(u64);
+pub struct Random(u64);
 
 impl Random {
-    fn next(&mut self) -> u64 {
+    pub const fn new(seed: u64) -> Random {
+        Random(seed)
+    }
+
+    pub fn next(&mut self) -> u64 {
         self.0 ^= self.0 << 13;
         self.0 ^= self.0 >> 7;
         self.0 ^= self.0 << 17;

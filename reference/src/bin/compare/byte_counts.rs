@@ -2,7 +2,6 @@
 //! [Bytes.11]
 
 use crate::byte_calls::{bits, width, RUNS};
-use crate::counts::is_active;
 use crate::numbers::*;
 use reference::machine::csr;
 

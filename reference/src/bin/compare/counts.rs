@@ -1,5 +1,5 @@
 //! What the compared calls met: every state, decline, outcome, assignment and clause of the spoiled rule, the blind
-//! time, STATE, byte-wise access, test mode and the held clock, and pairs of writes.
+//! time, STATE, byte-wise access, test mode and the held clock, pairs of writes, and the generator.
 
 use crate::blind_counts::{self, BlindCounts};
 use crate::byte_counts::ByteCounts;
@@ -9,6 +9,7 @@ use crate::numbers::*;
 use crate::order_counts::OrderCounts;
 use crate::owed_counts::OwedCounts;
 use crate::state_counts::StateCounts;
+use crate::table_counts::TableCounts;
 use crate::test_counts::{in_force, TestCounts};
 use reference::machine::csr;
 
@@ -48,7 +49,7 @@ pub struct Counts {
     pub lists: u64,
     pub accounts: u64,
     pub whole: u64,
-    replies: [[u64; 8]; KINDS.len()],
+    replies: [[u64; 9]; KINDS.len()],
     moves: [[u64; 8]; 8],
     user_waits: u64,
     outcomes: [u64; 7],
@@ -65,6 +66,7 @@ pub struct Counts {
     tests: TestCounts,
     holds: HeldCounts,
     pub orders: OrderCounts,
+    pub table: TableCounts,
     clauses: [[u64; 2]; CLAUSES.len()],
 }
 
@@ -75,7 +77,7 @@ impl Counts {
             lists: 0,
             accounts: 0,
             whole: 0,
-            replies: [[0; 8]; KINDS.len()],
+            replies: [[0; 9]; KINDS.len()],
             moves: [[0; 8]; 8],
             user_waits: 0,
             outcomes: [0; 7],
@@ -92,6 +94,7 @@ impl Counts {
             tests: TestCounts::new(),
             holds: HeldCounts::new(),
             orders: OrderCounts::new(),
+            table: TableCounts::new(),
             clauses: [[0; 2]; CLAUSES.len()],
         }
     }
@@ -212,7 +215,7 @@ impl Counts {
         };
         println!("Replies");
         for (kind, name) in KINDS.iter().enumerate() {
-            for decline in 0..8 {
+            for decline in 0..9 {
                 let listed = match kind as u64 {
                     WRITE_REGISTER => [0, 1, 3, 4, 5].contains(&decline),
                     READ_REGISTER => [0, 1, 3].contains(&decline),
@@ -220,6 +223,7 @@ impl Counts {
                     TICK => [0, 1, 2, 5].contains(&decline),
                     WRITE_BYTES => [0, 1, 3, 4, 5, 7].contains(&decline),
                     READ_BYTES => [0, 1, 3, 7].contains(&decline),
+                    FILL_MEMORY => [0, 1, 2, 4, 8].contains(&decline),
                     _ => decline == 0,
                 };
                 if listed {
@@ -275,6 +279,7 @@ impl Counts {
             ("Byte-wise access", [self.bytes.rows(), self.owed.rows()].concat()),
             ("Test mode and the held clock", [self.tests.rows(), self.holds.rows()].concat()),
             ("Two writes in both orders", self.orders.rows()),
+            ("The generator", self.table.rows()),
         ] {
             println!("{title}");
             rows.into_iter().for_each(|(name, count)| row(name, count));
@@ -286,10 +291,4 @@ impl Counts {
         }
         missing
     }
-}
-
-pub fn is_active(n: &Record) -> bool {
-    let wanted = n[0] & 0xC != 0 && n[0] & 0x10 != 0;
-    let busy = (0..4).any(|b| n[BRANCH + 3 * b + 1] != 0 || n[BRANCH + 3 * b + 2] != 0);
-    n[0] & 1 != 0 || n[STATE] != 0 || n[WAITING] == 1 || wanted || busy
 }

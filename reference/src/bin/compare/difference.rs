@@ -73,6 +73,7 @@ fn print_call([kind, a, b, c]: Call, words: &[u16]) {
         TICK => {
             println!("  {name} {a:03X} {b:02X} {c:08X} ({} words, first of them at this place {word})", words.len())
         }
+        FILL_MEMORY => println!("  {name} {:04X?} ({} words)", words_of([kind, a, b, c]), words.len()),
         _ => println!("  {name}"),
     }
 }

@@ -27,10 +27,12 @@ include!("held_faults.rs");
 include!("mode_faults.rs");
 include!("speed_faults.rs");
 include!("order_faults.rs");
+include!("table_faults.rs");
+include!("place_faults.rs");
 include!("account_faults.rs");
 
 /// Those of the machine, in order.
-const MACHINE_FAULTS: [&[Fault]; 13] = [
+const MACHINE_FAULTS: [&[Fault]; 15] = [
     CALL_FAULTS,
     TICK_FAULTS,
     REQUEST_FAULTS,
@@ -44,6 +46,8 @@ const MACHINE_FAULTS: [&[Fault]; 13] = [
     MODE_FAULTS,
     SPEED_FAULTS,
     ORDER_FAULTS,
+    TABLE_FAULTS,
+    PLACE_FAULTS,
 ];
 
 /// All of them with their numbers, from 1: the machine's, then the account's.

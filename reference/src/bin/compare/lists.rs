@@ -3,12 +3,12 @@
 
 use crate::byte_calls;
 use crate::changes::change;
-use crate::counts::is_active;
 use crate::numbers::*;
 use crate::order_calls;
 use crate::profile::Profile;
 use crate::random::Random;
 use crate::setup;
+use crate::table_calls;
 use crate::test_calls;
 use crate::ticks::tick;
 use crate::values::{blind_value, csr_value, number, place, value, word, HABITS};
@@ -30,7 +30,11 @@ pub struct Maker {
     pub random: Random,
     /// For pairs of writes alone, so that no other step depends on them.
     pairs: Random,
+    /// For fills alone, so that no step before the first of them depends on them.
+    fills: Random,
     profile: Profile,
+    /// Whether the list has fills.
+    has_fills: bool,
     /// Calls that are to come first, last one first.
     queued: Vec<Call>,
     /// The record that was changed, and after how many calls it comes back.
@@ -44,7 +48,9 @@ impl Maker {
         let profile = Profile::new(&mut random);
         let length = random.pick(&[30, 100, 300, 600, 600, 2_000]);
         let pairs = Random::new(!seed);
-        let mut maker = Maker { random, pairs, profile, queued: Vec::new(), changed: None, length };
+        let mut fills = Random::new(seed ^ table_calls::SEED);
+        let has_fills = fills.once_in(3);
+        let mut maker = Maker { random, pairs, fills, profile, has_fills, queued: Vec::new(), changed: None, length };
         maker.set_up();
         maker
     }
@@ -111,6 +117,28 @@ impl Maker {
         }
         let memory = if self.pairs.once_in(4) { self.pairs.below(6) as usize } else { 0 };
         Some(Step::Both { memory, writes: order_calls::writes(&mut self.pairs, record) })
+    }
+
+    /// In some lists now and then a fill of the memory, more often where it is taken, with calls behind it that show what
+    /// was filled. [Table.4]
+    pub fn fill(&mut self, record: &Record) -> Option<Step> {
+        let odd = record[BLIND] != 0 || record[TEST] != 0 || record[SYNC_COUNT] != 0;
+        let of = match (&self.changed, is_active(record)) {
+            (Some(_), _) => 40,
+            (None, true) => 250,
+            (None, false) if odd => 6,
+            (None, false) => 30,
+        };
+        if !self.has_fills || !self.fills.once_in(of) {
+            return None;
+        }
+        let other = self.profile.lengths > 0 && self.fills.once_in(3);
+        let memory = if other { self.fills.below(6) as usize } else { 0 };
+        let call = fill(&table_calls::words(&mut self.fills));
+        if memory == 0 && self.fills.once_in(2) {
+            self.queued.extend(table_calls::behind(&mut self.fills, call).into_iter().rev());
+        }
+        Some(Step::Call { memory, call })
     }
 
     /// A call on a record that was changed, or the one from before the change put back.

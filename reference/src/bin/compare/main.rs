@@ -32,6 +32,8 @@ mod random;
 mod scripts;
 mod setup;
 mod state_counts;
+mod table_calls;
+mod table_counts;
 mod test_calls;
 mod test_counts;
 mod ticks;
@@ -63,9 +65,10 @@ impl<M: Machine> Run<M> {
         self.steps.push(step);
         let step = self.steps.last().expect("one was pushed");
         match (self.pair.step(step)?, step) {
-            (Done::Reply(reply), Step::Call { call, .. }) => {
+            (Done::Reply(reply), Step::Call { memory, call }) => {
                 counts.add(&before, *call, &reply, &self.pair.proved, self.pair.account.is_some());
                 counts.owed.add(*call, &reply, owed, &self.pair);
+                counts.table.add(&before, *memory, *call, &reply, &self.pair);
                 self.replies.push(reply);
             }
             (Done::Both(orders), Step::Both { writes, .. }) => {
@@ -77,14 +80,18 @@ impl<M: Machine> Run<M> {
         Ok(())
     }
 
-    /// The whole list, with two writes in both orders behind some steps.
+    /// The whole list, with two writes in both orders, or a fill of the memory, behind some steps.
     fn all(&mut self, maker: &mut Maker, counts: &mut Counts) -> Result<(), String> {
         counts.forget();
+        counts.table.forget();
         for _ in 0..maker.length {
             let step = maker.step(&self.pair.proved);
             self.step(step, counts)?;
             if let Some(both) = maker.both(&self.pair.proved) {
                 self.step(both, counts)?;
+            }
+            if let Some(fill) = maker.fill(&self.pair.proved) {
+                self.step(fill, counts)?;
             }
         }
         counts.lists += 1;

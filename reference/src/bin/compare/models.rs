@@ -146,6 +146,7 @@ macro_rules! model {
                     TICK => s.tick(memory, a, b, c).map(|answer| Self::answer(&answer)),
                     WRITE_BYTES => s.write_bytes(a, first, count, b).map(|()| plain(0, 0)),
                     READ_BYTES => s.read_bytes(a, first, count).map(|value| plain(0, value)),
+                    FILL_MEMORY => s.fill_memory(memory, &words_of(call)).map(|()| plain(0, 0)),
                     _ => {
                         s = $machine::Supervisor::fresh();
                         Ok(plain(0, 0))

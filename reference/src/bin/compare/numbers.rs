@@ -2,6 +2,7 @@
 //! crates/harness.
 
 use crate::accounts::Account;
+use reference::machine::INPUTS;
 
 /// Registers 0–19, counters, main, sync count, user sync, three numbers for each branch, the blind count, what is kept
 /// of the latest tick, the latches of the two scalers, then what waits.
@@ -107,7 +108,9 @@ pub const MAKE_FRESH: u64 = 5;
 pub const WRITE_BYTES: u64 = 6;
 /// Number, 0, run.
 pub const READ_BYTES: u64 = 7;
-pub const KINDS: [&str; 8] = [
+/// Twelve words, four in each number, that of input 1 in the lowest bits of the first.
+pub const FILL_MEMORY: u64 = 8;
+pub const KINDS: [&str; 9] = [
     "register write",
     "register read",
     "memory write",
@@ -116,6 +119,7 @@ pub const KINDS: [&str; 8] = [
     "fresh",
     "register write by bytes",
     "register read by bytes",
+    "memory fill",
 ];
 
 /// A run of bytes in one number: the first byte, and from bit 32 on the count.
@@ -128,8 +132,26 @@ pub fn unpacked(run: u64) -> (u32, u32) {
     (run as u32, (run >> 32) as u32)
 }
 
+/// The generator's call with these words.
+pub fn fill(words: &[u16; INPUTS]) -> Call {
+    let four = |first: usize| words[first..first + 4].iter().rev().fold(0, |n, &word| n << 16 | u64::from(word));
+    [FILL_MEMORY, four(0), four(4), four(8)]
+}
+
+/// The words of a call of the generator.
+pub fn words_of(call: Call) -> [u16; INPUTS] {
+    std::array::from_fn(|at| (call[1 + at / 4] >> (16 * (at % 4))) as u16)
+}
+
 /// 0 or the decline; value read; masks by two; accepted and lines out; outcome; finished; shown.
 pub type Reply = [u64; 8];
+
+/// [Active.1]
+pub fn is_active(n: &Record) -> bool {
+    let wanted = n[0] & 0xC != 0 && n[0] & 0x10 != 0;
+    let busy = (0..4).any(|b| n[BRANCH + 3 * b + 1] != 0 || n[BRANCH + 3 * b + 2] != 0);
+    n[0] & 1 != 0 || n[STATE] != 0 || n[WAITING] == 1 || wanted || busy
+}
 
 /// A machine that makes calls on records of numbers, and the account that is kept beside it.
 pub trait Machine {

@@ -2,7 +2,6 @@
 //! [Order.3]
 
 use crate::byte_calls::bits;
-use crate::counts::is_active;
 use crate::numbers::*;
 use crate::orders::{is_memory, is_setting, Orders};
 use reference::machine::csr;

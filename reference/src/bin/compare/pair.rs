@@ -65,6 +65,9 @@ impl<M: Machine> Pair<M> {
         if !matches!(reply[0], 0 | 4) && self.proved != before {
             return Err("a declined call changed the record on both sides".into());
         }
+        if call[0] == FILL_MEMORY && reply[0] == 0 {
+            gives_back(call, memories[0])?;
+        }
         self.keep_account(call, &reply)?;
         Ok(reply)
     }
@@ -100,9 +103,27 @@ pub fn agree(replies: [&Reply; 2], records: [&Record; 2], memories: [&[u16]; 2])
         return Err(format!("records: {}", fields(["proved", "model"], records)));
     }
     if memories[0] != memories[1] {
-        return Err("memories".into());
+        return Err(format!("memories: {}", places(memories)));
     }
     Ok(())
+}
+
+/// The first place at which two memories of one length differ, and how many there are.
+fn places([one, other]: [&[u16]; 2]) -> String {
+    let differ: Vec<usize> = (0..one.len()).filter(|&place| one[place] != other[place]).collect();
+    let first = differ.first().map(|&at| format!("place {at:03X}: proved {:04X}, model {:04X}", one[at], other[at]));
+    format!("{}; places that differ: {}", first.unwrap_or_default(), differ.len())
+}
+
+/// Place 0 is 0, and each word stands at its own one-input place. [Table.5] [Table.7]
+fn gives_back(call: Call, memory: &[u16]) -> Result<(), String> {
+    let own = words_of(call).into_iter().enumerate().map(|(at, word)| (1 << at, word));
+    match own.chain([(0, 0)]).find(|&(place, word)| memory[place] != word) {
+        Some((place, word)) => {
+            Err(format!("place {place:03X} after a fill by both: {:04X}, not {word:04X}", memory[place]))
+        }
+        None => Ok(()),
+    }
 }
 
 /// The fields in which two records differ.

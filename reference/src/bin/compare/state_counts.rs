@@ -1,6 +1,6 @@
 //! What the compared calls met of register 20, STATE. [State.1]–[State.8b]
 
-use crate::counts::{is_active, STATES};
+use crate::counts::STATES;
 use crate::numbers::*;
 use reference::machine::{csr, Supervisor};
 

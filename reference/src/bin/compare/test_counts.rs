@@ -1,7 +1,6 @@
 //! What the compared calls met of register 21, TEST, and of ticks that ran in test mode. [Test.1]–[Test.6]
 
 use crate::byte_calls::bits;
-use crate::counts::is_active;
 use crate::numbers::*;
 use reference::machine::{control, csr, test};
 
