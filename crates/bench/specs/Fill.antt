@@ -51,4 +51,5 @@ abbrev pub memoryTakesTwoClasses : Example
 memoryTakesTwoClasses = given store 0x0057 ∷ running ask pulse 1 ∷ [] look accepted see 1 ∷ []
 
 abbrev pub fillExamples : List Example
-fillExamples = badWords ∷ badWordFillsNothing ∷ badWordSetsNoStatus ∷ activeFirst ∷ activeSetsWriteError ∷ memoryTakesTwoClasses ∷ []
+fillExamples =
+    badWords ∷ badWordFillsNothing ∷ badWordSetsNoStatus ∷ activeFirst ∷ activeSetsWriteError ∷ memoryTakesTwoClasses ∷ []

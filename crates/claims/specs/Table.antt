@@ -1,6 +1,6 @@
--- What is claimed of document 02's request N7, the memory filled from twelve words. proofs/TableProved.antt proves each by citing
--- its law. That the call gives its definition's answer, record and memory is its contract (Claims, `fill_memory`); which decline
--- comes first, and what it leaves, is RefusesInOrder, RefusalLeavesRecord and RefusalLeavesMemory there. Demand 3 and
+-- What is claimed of document 02's request N7, the memory filled from twelve words. proofs/TableProved.antt proves each by
+-- citing its law. That the call gives its definition's answer, record and memory is its contract (Claims, `fill_memory`); which
+-- decline comes first, and what it leaves, is RefusesInOrder, RefusalLeavesRecord and RefusalLeavesMemory there. Demand 3 and
 -- NeverSpoiled are over lists that hold fills too.
 -- Assumes nothing.
 use Prim.Native.Nat.{ℕ, _<_, _^_}
@@ -22,9 +22,9 @@ use Rattle.declines.specs.Runs.{fillMemory, askOf, Session, session, replyTo, a
 use Rattle.bench.specs.Bench.{allRight}
 use Rattle.bench.specs.Fill.{fillExamples}
 
--- [Table.2a]–[Table.2d] [Table.7] Every shipped word is the one that the rule gives its input, and the module reads from it level 1
--- OK and the rule's class, code and accept pattern: one test over all twelve. The code's constant is these words, by the contract
--- of table::shipped_words.
+-- [Table.2a]–[Table.2d] [Table.7] Every shipped word is the one that the rule gives its input, and the module reads from it
+-- level 1 OK and the rule's class, code and accept pattern: one test over all twelve. The code's constant is these words, by the
+-- contract of table::shipped_words.
 abbrev pub ShippedMeetsRule : Type 0
 ShippedMeetsRule = shipped.ShippedMeetsRule
 

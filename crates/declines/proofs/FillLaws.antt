@@ -74,6 +74,7 @@ done-fill words z =
 
 -- [Table.8b]
 pub bad-word-declined : (words memory : List ℕ) (s : Supervisor) → isSpoiledOf s ≡ false → length memory ≡ memoryPlaces
-    → isActiveOf s ≡ false → areTaken words ≡ false → askOf (fillMemory words) memory s ≡ record { reply = declined 8; next = s }
+    → isActiveOf s ≡ false → areTaken words ≡ false
+    → askOf (fillMemory words) memory s ≡ record { reply = declined 8; next = s }
 unfolding fillMemoryOf
 bad-word-declined words memory s sound long idle bad = rw (sound, eq-eqb (length memory) memoryPlaces long, idle, bad)

@@ -44,7 +44,8 @@ use Rattle.declines.specs.Calls.{markedOf, writeRunOf, readRunOf, writeB
 use Rattle.declines.specs.Runs.{Ask, writeRegister, readRegister, plainRead, askOf, callOf, everyAsk}
 use Rattle.declines.specs.Latches.{cutReply, isScaler, latchAt, scalerAt, withLatched, withoutLatches, scalerNumber}
 use Rattle.declines.specs.Latches.{isInitialize, writeLeavesLatch, readLeavesLatch, leavesLatch, LatchStands}
-use Rattle.declines.proofs.CallEnds.{End, refused, refusedActive, wrote, read, gave, stored, filled, ran, held, call-ends}
+use Rattle.declines.proofs.CallEnds.{End, refused, refusedActive, wrote, read, gave, stored, filled, ran, held}
+use Rattle.declines.proofs.CallEnds.{call-ends}
 
 -- ---- what a read leaves and gives
 

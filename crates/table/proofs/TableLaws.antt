@@ -27,7 +27,8 @@ use Rattle.bits.proofs.WidthLaws.{fits-iff-no-bit-outside}
 use Rattle.registers.specs.Control.{inputs}
 use Rattle.sequencer.specs.MemoryWord.{isOkWord, classInOf}
 use Rattle.table.specs.Shipped.{ShippedMeetsRule, shippedWords, shippedWordOf, isShipped}
-use Rattle.table.specs.Table.{hasOneClass, isTakenWord, areTaken, lowestOf, someOf, lowestWord, tableBit, tableWordOf, tableOf}
+use Rattle.table.specs.Table.{hasOneClass, isTakenWord, areTaken, lowestOf, someOf}
+use Rattle.table.specs.Table.{lowestWord, tableBit, tableWordOf, tableOf}
 
 -- ---- one index of many
 
@@ -75,8 +76,8 @@ unfolding someOf lowestOf
 lowest-holds zero f h = absurd (false≢true h)
 lowest-holds (suc n) f h = go (f 0) refl (lowest-holds n (λ i. f (suc i))) h
   where
-    go : (t : Bool) → f 0 ≡ t → {some : Bool} {lowest : ℕ} → (some ≡ true → Holds n (λ i. f (suc i)) lowest) → (t || some) ≡ true
-        → Holds (suc n) f (cond t 0 (suc lowest))
+    go : (t : Bool) → f 0 ≡ t → {some : Bool} {lowest : ℕ} → (some ≡ true → Holds n (λ i. f (suc i)) lowest)
+        → (t || some) ≡ true → Holds (suc n) f (cond t 0 (suc lowest))
     go true e rest k = record { below = omega arith; holds = e }
     go false e rest k = record { below = omega (arith, rest k .below); holds = rest k .holds }
 

@@ -35,7 +35,8 @@ shippedClass i = if leb i 4 then 3 else if leb i 8 then 2 else 1
 abbrev pub shippedAccept : (input : ℕ) → ℕ
 shippedAccept i = 2 ^ ((i - 1) % 8)
 
--- [Table.2d] bit 0, [Table.2a] the bit of its class, [Table.2b] the code from bit 4 on, [Table.2c] the accept pattern from bit 8 on
+-- [Table.2d] bit 0, [Table.2a] the bit of its class, [Table.2b] the code from bit 4 on, [Table.2c] the accept pattern from
+-- bit 8 on
 unfoldable pub shippedWordOf : (input : ℕ) → ℕ
 shippedWordOf i = 1 + 2 ^ shippedClass i + 16 * i + 256 * shippedAccept i
 

@@ -48,7 +48,8 @@ someOf (suc n) f = f 0 || someOf n (λ i. f (suc i))
 abbrev pub lowestWord : (words : List ℕ) (place : ℕ) → ℕ
 lowestWord words place = getD words (lowestOf inputs (bitAt place)) 0
 
--- [Table.6a] bits 0–7 are those of the lowest input's word; a bit above is set if it is in the word of any input in the pattern
+-- [Table.6a] bits 0–7 are those of the lowest input's word; a bit above is set if it is in the word of any input of the
+-- pattern
 abbrev pub tableBit : (words : List ℕ) (place : ℕ) → ℕ → Bool
 tableBit words place b =
     if ltb b 8 then bitAt (lowestWord words place) b

@@ -1,5 +1,5 @@
--- `calls::fill_memory` meets its contract: each return is reached by the tests that the definition makes, in the same order, and
--- the memory follows from the answer. First written by tools/prove.py; the memory was added by hand. Assumes nothing.
+-- `calls::fill_memory` meets its contract: each return is reached by the tests that the definition makes, in the same order,
+-- and the memory follows from the answer. First written by tools/prove.py; the memory was added by hand. Assumes nothing.
 use Prim.Native.Nat.{ℕ}
 use mathlib.Core.Path.{_≡_, ap, _∙_}
 use borrow.Author.Tests.{eq-eqb, ne-eqb}
@@ -50,7 +50,8 @@ returns-3 c =
       ← c .before .before .before .before .before .before .is-spoiled .ensures,
       c .before .before .before .before .before .if1 .left,
     ) in
-    (c .refused-fill3 .ensures ∙ ap (refuseFill (Plain Active)) (c .before .marked .ensures) ∙ end, refused-fills-nothing _ _ _ _ _ end)
+    let marked = ap (refuseFill (Plain Active)) (c .before .marked .ensures) in
+    (c .refused-fill3 .ensures ∙ marked ∙ end, refused-fills-nothing _ _ _ _ _ end)
 
 returns-4 : tie.Need-returns-4
 unfolding fillMemoryOf
@@ -82,7 +83,8 @@ returns-5 c =
       ← c .before .before .before .before .before .before .before .before .before .before .is-spoiled .ensures,
       c .before .before .before .before .before .before .before .before .before .if1 .left,
     ) in
-    let whole = ap (λ (n : ℕ). tableOf n (a .words)) (c .before .before .before .before .before .before .before .before .if2 .left) in
+    let length-is = c .before .before .before .before .before .before .before .before .if2 .left in
+    let whole = ap (λ (n : ℕ). tableOf n (a .words)) length-is in
     (end, c .before .before .fill .ensures ∙ whole ∙ done-fills _ _ _ _ end)
 
 pub fill-memory-spec : {M : Type 1} → statement M
