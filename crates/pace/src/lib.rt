@@ -1,12 +1,11 @@
-// The loops that reference/bench measures: ticks by the public call, over a table of inputs that the caller lends, and fills of
-// the memory. It is a crate of its own, so that the program has one call of the tick and the compiler puts it into the loop.
+// The loop that reference/bench measures: ticks by the public call, over a table of inputs that the caller lends. It is
+// a crate of its own, so that the program has one call of the tick and the compiler puts it into the loop.
 // No contract says what the sum is; reference/bench compares it with the model's.
 use branch::Branch;
 use branch::Slot;
 use branches::Readout;
 use branches::Side;
 use core::Core;
-use declines::FillVerdict;
 use declines::Verdict;
 use numbers::number_at;
 use numbers::wide;
@@ -198,7 +197,7 @@ fn closed(sum: u64, s: Supervisor) -> u64 {
     )
 }
 
-// ---- the loop of ticks
+// ---- the loop
 
 // An input of the table: triggers from bit 0, lines from bit 12, acknowledges from bit 32.
 fn inputs_in(packed: u64) -> Inputs {
@@ -226,59 +225,4 @@ pub extern "C" fn run_ticks(n: u64, memory: &[u16], table: &[u64]) -> u64 {
         i += 1;
     }
     closed(sum, s)
-}
-
-// ---- the loop of fills
-
-// How many words a fill takes.
-const WORDS: usize = 12;
-
-fn word_at(words: &[u16], place: usize) -> u16 {
-    if place < words.len() {
-        return words[place];
-    }
-    0
-}
-
-fn words_at(words: &[u16]) -> [u16; 12] {
-    [
-        word_at(words, 0),
-        word_at(words, 1),
-        word_at(words, 2),
-        word_at(words, 3),
-        word_at(words, 4),
-        word_at(words, 5),
-        word_at(words, 6),
-        word_at(words, 7),
-        word_at(words, 8),
-        word_at(words, 9),
-        word_at(words, 10),
-        word_at(words, 11),
-    ]
-}
-
-fn fill_number(verdict: FillVerdict) -> u64 {
-    match verdict {
-        FillVerdict::Done => 0,
-        FillVerdict::Declined(why) => why.number() as u64
-    }
-}
-
-// The memory filled on a fresh record from the first twelve words; 0, or the number of the decline.
-fn filled(memory: &mut [u16], words: &[u16]) -> u64 {
-    let r = calls::fill_memory(Supervisor::fresh(), memory, words_at(words));
-    let answer = r.answer;
-    fill_number(answer)
-}
-
-// A fill from each whole twelve of the words; 0 if none was declined.
-#[no_mangle]
-pub extern "C" fn run_fills(memory: &mut [u16], words: &[u16]) -> u64 {
-    let mut sum: u64 = 0;
-    let mut at: usize = 0;
-    while WORDS <= words.len() - at {
-        sum = sum | filled(memory, &words[at..]);
-        at += WORDS;
-    }
-    sum
 }

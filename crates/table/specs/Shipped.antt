@@ -4,7 +4,7 @@
 --     shippedWordOf    the rule: what the word of an input is
 --     isShipped        the word of an input, read as the module reads a memory word, says what the rule's sentence says
 --     ShippedMeetsRule that each word is the rule's and reads so: one test over all entries
--- Own rules of 02 used here: none. Decisions: none. Left out: nothing.
+-- Own rules of 02 used here: none. Decisions: F37. Left out: nothing.
 -- Assumes nothing.
 use Prim.Native.Nat.{ℕ, suc, _+_, _-_, _*_, _%_, _^_}
 use mathlib.Core.Path.{_≡_}
