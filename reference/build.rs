@@ -22,7 +22,7 @@ fn main() {
     }
     let here = PathBuf::from(std::env::var_os("CARGO_MANIFEST_DIR").expect("cargo sets it"));
     let archives = here.join("../target/staticlib");
-    for (bin, name) in [("compare", "harness"), ("bench", "pace")] {
+    for (bin, name) in [("compare", "harness"), ("bench", "pace"), ("bench", "harness")] {
         let archive = archives.join(format!("lib{name}.a"));
         println!("cargo:rerun-if-changed={}", archive.display());
         println!("cargo:rustc-link-arg-bin={bin}={}", archive.display());

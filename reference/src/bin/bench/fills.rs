@@ -1,4 +1,7 @@
-//! Fills of the memory: the proved library's loop, the same loop over the model, and the words that both are fed.
+//! Fills of the memory: the proved library's call, the model's, and the words that both are fed.
+//!
+//! The library's are run by the archive `harness`, as the comparison runs every call: a second call beside the tick in
+//! `pace` would change what the compiler makes of the tick.
 
 use crate::traffic::Random;
 use reference::machine::{Supervisor, INPUTS, MEMORY_WORDS};
@@ -12,15 +15,52 @@ pub const SIDES: [(&str, Side); 2] = [("proved", proved_fills), ("model", model_
 /// Fills of one run.
 pub const FILLS: usize = 64;
 
+/// Numbers of a record, of a call and of an answer, laid out as in crates/numbers and crates/harness; a fresh record is
+/// all 0.
+const RECORD: usize = 57;
+const ANSWER: usize = 8;
+const FILL_MEMORY: u64 = 8;
+
 extern "C" {
-    fn run_fills(memory: *mut u16, memory_len: usize, words: *const u16, words_len: usize) -> u64;
+    fn run_calls(
+        record: *mut u64,
+        record_len: usize,
+        memory: *mut u16,
+        memory_len: usize,
+        calls: *const u64,
+        calls_len: usize,
+        answers: *mut u64,
+        answers_len: usize,
+    ) -> u64;
+}
+
+/// Four words in a number, the first lowest.
+fn packed(words: &[u16]) -> u64 {
+    words.iter().rev().fold(0, |number, &word| number << 16 | u64::from(word))
 }
 
 #[inline(never)]
 fn proved_fills(memory: &mut [u16], words: &[u16]) -> u64 {
-    // SAFETY: each pointer goes with the length of its slice, the slices do not overlap, and `run_fills` has no
-    // `requires`.
-    unsafe { run_fills(memory.as_mut_ptr(), memory.len(), words.as_ptr(), words.len()) }
+    let (twelves, _) = words.as_chunks::<INPUTS>();
+    let call = |w: &[u16; INPUTS]| [FILL_MEMORY, packed(&w[..4]), packed(&w[4..8]), packed(&w[8..])];
+    let calls: Vec<u64> = twelves.iter().flat_map(call).collect();
+    let mut record = [0; RECORD];
+    let mut answers = vec![0; twelves.len() * ANSWER];
+    let (record_at, memory_at, answers_at) = (record.as_mut_ptr(), memory.as_mut_ptr(), answers.as_mut_ptr());
+    // SAFETY: each pointer goes with the length of its slice, no two overlap, and `run_calls` has no `requires`.
+    unsafe {
+        run_calls(
+            record_at,
+            RECORD,
+            memory_at,
+            memory.len(),
+            calls.as_ptr(),
+            calls.len(),
+            answers_at,
+            answers.len(),
+        )
+    };
+    answers.iter().step_by(ANSWER).sum()
 }
 
 #[inline(never)]
