@@ -1,5 +1,5 @@
 #!/usr/bin/env python3
-"""Tests of the tools: session and states, explain, wave, timing, diagrams, and what every command makes of its words.
+"""Tests of the tools: session and states, explain, wave, timing, diagrams, table, and what every command makes of its words.
 
     python3 tools/tests.py
 
@@ -16,6 +16,7 @@ from tests_commands import Checks, Console, Edits, Requests, Setters, Tags, Word
 from tests_drawings import Diagrams, Timing, Wave  # noqa: F401
 from tests_modes import Followed, Modes  # noqa: F401
 from tests_run import FIRST, TICK, Scripts, run
+from tests_table import Table  # noqa: F401
 
 
 class Calls(Scripts):

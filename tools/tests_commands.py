@@ -17,7 +17,8 @@ from page import TOP, keep, read, write
 
 FIRST = TOP / "examples" / "first.txt"
 SCRIPTS = {"explain": [FIRST], "wave": [FIRST]}
-PAGES = ["cases.py", "diagrams.py", "examples.py", "fields.py", "impostors.py", "links.py", "sizes.py", "timing.py", "trace.py"]
+PAGES = ["cases.py", "diagrams.py", "examples.py", "fields.py", "impostors.py", "links.py", "sizes.py", "table.py", "timing.py",
+         "trace.py"]
 
 
 def ran(*command, folder=TOP, **more):

@@ -49,16 +49,7 @@ fn proved_fills(memory: &mut [u16], words: &[u16]) -> u64 {
     let (record_at, memory_at, answers_at) = (record.as_mut_ptr(), memory.as_mut_ptr(), answers.as_mut_ptr());
     // SAFETY: each pointer goes with the length of its slice, no two overlap, and `run_calls` has no `requires`.
     unsafe {
-        run_calls(
-            record_at,
-            RECORD,
-            memory_at,
-            memory.len(),
-            calls.as_ptr(),
-            calls.len(),
-            answers_at,
-            answers.len(),
-        )
+        run_calls(record_at, RECORD, memory_at, memory.len(), calls.as_ptr(), calls.len(), answers_at, answers.len())
     };
     answers.iter().step_by(ANSWER).sum()
 }
