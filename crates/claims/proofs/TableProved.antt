@@ -1,11 +1,11 @@
 -- Each claim of specs/Table.antt, proved in one line by the law that it restates.
 -- Assumes nothing.
-use mathlib.Core.Path.{_≡_, _∙_}
 use Rattle.table.proofs.TableLaws as table
+use Rattle.table.proofs.TableExamples as shipped
 use Rattle.declines.proofs.FillLaws as fill
 use Rattle.declines.proofs.FilledMemory as filled
 use Rattle.bench.proofs.FillExamples as examples
-use Rattle.claims.specs.Table.{ShippedMeetsRule, ShippedWordsAreTaken, FillLeavesItsTable, WordComesBack}
+use Rattle.claims.specs.Table.{ShippedMeetsRule, ShippedWordsAreTaken, ShippedExamples, FillLeavesItsTable, WordComesBack}
 use Rattle.claims.specs.Table.{BadWordIsDeclined, FilledMemoryAccepts, FilledMemoryRejectsNothing, FillExamples}
 
 pub shipped-meets-rule : ShippedMeetsRule
@@ -13,6 +13,9 @@ shipped-meets-rule = table.shipped-meets-rule
 
 pub shipped-words-are-taken : ShippedWordsAreTaken
 shipped-words-are-taken = table.shipped-is-taken
+
+pub shipped-examples : ShippedExamples
+shipped-examples = shipped.shipped-places
 
 pub fill-leaves-its-table : FillLeavesItsTable
 fill-leaves-its-table words z e = fill.done-fill words z e .left

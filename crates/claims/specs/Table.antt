@@ -12,7 +12,7 @@ use Rattle.registers.specs.Control.{inputs}
 use Rattle.sequencer.specs.MemoryWord.{isOkWord}
 use Rattle.table.specs.Shipped as shipped
 use Rattle.table.specs.Shipped.{shippedWords}
-use Rattle.table.specs.Table.{areTaken, tableOf}
+use Rattle.table.specs.Table.{areTaken, tableOf, ShippedPlaces}
 use Rattle.trigger.specs.declared.lines.Inputs.{Inputs}
 use Rattle.supervisor.specs.Supervisor.{isActiveOf, isSpoiledOf}
 use Rattle.supervisor.specs.declared.Supervisor.{Supervisor}
@@ -31,6 +31,10 @@ ShippedMeetsRule = shipped.ShippedMeetsRule
 -- [Table.8b] The generator takes them.
 abbrev pub ShippedWordsAreTaken : Type 0
 ShippedWordsAreTaken = areTaken shippedWords ≡ true
+
+-- [Table.3] [Table.5] [Table.6b] The document's examples, as words of the table that they fill.
+abbrev pub ShippedExamples : Type 0
+ShippedExamples = ShippedPlaces
 
 -- [Table.4] A fill that is carried out leaves the table of its words, whatever stood in the memory, and the record as it is.
 abbrev pub FillLeavesItsTable : Type 0

@@ -5,19 +5,19 @@
 --     gathered-all   .. of all inputs
 --     gathered-is-table   of all inputs it is the table's word
 -- Assumes nothing.
-use Prim.Native.Nat.{ℕ, zero, suc, _+_, _-_, _<_, _≤_, _%_, _^_}
+use Prim.Native.Nat.{ℕ, zero, suc, _+_, _-_, _<_, _≤_, _^_}
 use mathlib.Core.Path.{_≡_, refl, sym, ap, ap₂, _∙_}
 use mathlib.Core.Bool.{Bool, true, false, _&&_, _||_, cond}
 use mathlib.Core.List.{List}
 use native.Mathlib.Omega.{arith}
 use native.Mathlib.Nat.{mod-eq-of-lt, add-zero, zero-add, add-suc, suc-add}
-use lib.Bits.{bitAnd, bitOr}
+use lib.Bits.{bitAnd}
 use lib.Dec.{eqb, ltb, leb}
 use lib.ListN.{getD}
 use borrow.Author.Tests.{lt-ltb, le-leb, lt-leb, eqb-true, ltb-true, ltb-false}
 use Rattle.bits.specs.Notation.{if_then_else_}
-use Rattle.bits.specs.Bits.{bitAt, bitsFrom, maskOf}
-use Rattle.bits.proofs.TestLaws.{and-fails, by-cond}
+use Rattle.bits.specs.Bits.{bitAt, maskOf}
+use Rattle.bits.proofs.TestLaws.{and-true, and-fails}
 use Rattle.bits.proofs.BitsLaws.{or-at, and-at, zero-at, run-at, mask-same, mask-of-bits}
 use Rattle.registers.specs.Control.{inputs}
 use Rattle.table.specs.Table.{overOf, lowestOf, someOf, lowestWord, tableBit, tableWordOf}
@@ -43,11 +43,7 @@ over-high : (w rest b : ℕ) → 8 ≤ b → b < 16 → bitAt (overOf w rest) b 
 over-high w rest b h k =
     over-at w rest b
     ∙ ap (λ (t : Bool). bitAt w b || t)
-    (ap (λ (t : Bool). bitAt rest b && t) (ap₂ _&&_ (le-leb 8 b h) (lt-ltb b 16 k)) ∙ and-yes (bitAt rest b))
-  where
-    and-yes : (p : Bool) → (p && true) ≡ p
-    and-yes true = refl
-    and-yes false = refl
+    (ap (λ (t : Bool). bitAt rest b && t) (ap₂ _&&_ (le-leb 8 b h) (lt-ltb b 16 k)) ∙ sym (and-true (bitAt rest b)))
 
 -- ---- what is made of n inputs; t: an input is in the pattern, f: its word
 
@@ -118,7 +114,7 @@ unfolding gathered
 gathered-none zero t f h = refl
 gathered-none (suc n) t f h = rw (h 0) (gathered-none n (λ i. t (suc i)) (λ i. f (suc i)) (λ i. h (suc i)))
 
--- [Table.5] [Table.6a] of a place of sixteen bits' words; there is no word behind the twelfth
+-- [Table.5] [Table.6a] twelve words of sixteen bits: there is none behind the twelfth, and no bit above the sixteenth
 pub gathered-is-table : (words : List ℕ) (place : ℕ) → getD words inputs 0 ≡ 0
     → gathered inputs (bitAt place) (λ i. getD words i 0) < 2 ^ 16
     → gathered inputs (bitAt place) (λ i. getD words i 0) ≡ tableWordOf words place

@@ -9,19 +9,19 @@
 --     taken-words-accept     a table of taken words has level 1 OK and a class at every place but 0
 --     shipped-meets-rule, shipped-is-taken   the shipped words are the rule's, and the generator takes them
 -- Assumes nothing.
-use Prim.Native.Nat.{ℕ, zero, suc, _+_, _<_, _≤_, _%_, _^_}
+use Prim.Native.Nat.{ℕ, zero, suc, _+_, _<_, _^_}
 use mathlib.Core.Path.{_≡_, refl, sym, ap, ap₂, _∙_}
-use mathlib.Core.Bool.{Bool, true, false, not, _&&_, _||_, cond, true≢false, false≢true}
+use mathlib.Core.Bool.{Bool, true, false, _&&_, _||_, cond, true≢false, false≢true}
 use mathlib.Core.List.{List}
 use native.Mathlib.Omega.{arith}
 use native.Mathlib.Nat.{mod-eq-of-lt}
-use lib.Dec.{eqb, ltb, leb, lit<}
+use lib.Dec.{eqb, ltb, leb}
 use lib.ListN.{length, getD}
 use lib.Seq.{ext-getD}
 use lib.Pow.{pow-pos, pow-lt}
 use borrow.Author.Tests.{ne-eqb, lt-ltb, le-leb, leb-true, ltb-true, ltb-false}
-use Rattle.bits.specs.Bits.{bitAt, bitsFrom, oneIfOf, maskOf, tabulate, every, NoBitOutside, fitsIn}
-use Rattle.bits.proofs.TestLaws.{and-left, and-right, and-both, every-at}
+use Rattle.bits.specs.Bits.{bitAt, bitsFrom, oneIfOf, tabulate, every}
+use Rattle.bits.proofs.TestLaws.{and-left, and-right, and-both, or-true, every-at}
 use Rattle.bits.proofs.BitsLaws.{mask-at-below, mask-same, mask-of-bits, no-bit-is-zero, run-at, tabulate-at, tabulate-length}
 use Rattle.bits.proofs.WidthLaws.{fits-iff-no-bit-outside}
 use Rattle.registers.specs.Control.{inputs}
@@ -36,11 +36,8 @@ pub some-at : (n : ℕ) (f : ℕ → Bool) (i : ℕ) → i < n → f i ≡ true 
 unfolding someOf
 some-at zero f i h e = absurd (omega arith)
 some-at (suc n) f zero h e = rw e
-some-at (suc n) f (suc i) h e = go (f 0) (some-at n (λ j. f (suc j)) i (omega arith) e)
-  where
-    go : (t : Bool) {r : Bool} → r ≡ true → (t || r) ≡ true
-    go true k = refl
-    go false k = k
+some-at (suc n) f (suc i) h e =
+    or-true (f 0) (someOf n (λ j. f (suc j))) (some-at n (λ j. f (suc j)) i (omega arith) e)
 
 pub none-at : (n : ℕ) (f : ℕ → Bool) → someOf n f ≡ false → (i : ℕ) → i < n → f i ≡ false
 none-at n f h i k = go (f i) refl
@@ -115,12 +112,9 @@ own-input : (i : ℕ) → bitAt (2 ^ i) i ≡ true
 own-input i = rw (one-input-at i i, le-leb i i (omega arith), lt-ltb i (i + 1) (omega arith))
 
 only-input : (i k : ℕ) → bitAt (2 ^ i) k ≡ true → k ≡ i
-only-input i k h = go (leb i k) (ltb k (i + 1)) refl refl
-  where
-    go : (s t : Bool) → leb i k ≡ s → ltb k (i + 1) ≡ t → k ≡ i
-    go true true e f = omega (arith, leb-true i k e, ltb-true k (i + 1) f)
-    go true false e f = absurd (false≢true (sym (ap₂ _&&_ e f) ∙ sym (one-input-at i k) ∙ h))
-    go false t e f = absurd (false≢true (sym (ap₂ _&&_ e f) ∙ sym (one-input-at i k) ∙ h))
+only-input i k h =
+    let both : (leb i k && ltb k (i + 1)) ≡ true = sym (one-input-at i k) ∙ h in
+    omega (arith, leb-true i k (and-left (leb i k) _ both), ltb-true k (i + 1) (and-right (leb i k) _ both))
 
 own-is-lowest : (i : ℕ) → i < inputs → lowestOf inputs (bitAt (2 ^ i)) ≡ i
 own-is-lowest i h =

@@ -4,17 +4,20 @@
 --     lowestOf, someOf   the lowest index at which a test holds; whether it holds at any
 --     tableWordOf    the word at a place
 --     tableOf        the words at the first places: at all 4,096 of the memory
+--     ShippedPlaces  the document's examples
 -- Own rules of 02 used here: none. Decisions: H1, H2. Left out: who may fill, and when it is declined, in declines.
 -- Assumes nothing.
 use Prim.Native.Nat.{ℕ, zero, suc, _+_}
-use mathlib.Core.Bool.{Bool, true, false, _&&_, _||_}
-use mathlib.Core.List.{List}
+use mathlib.Core.Bool.{Bool, false, _&&_, _||_}
+use mathlib.Core.Path.{_≡_}
+use mathlib.Core.List.{List, [], _∷_, map}
 use lib.Bits.{bitAnd, bitOr}
 use lib.Dec.{eqb, ltb}
 use lib.ListN.{getD}
 use Rattle.bits.specs.Notation.{if_then_else_}
 use Rattle.bits.specs.Bits.{bitAt, oneIfOf, maskOf, tabulate, every}
 use Rattle.registers.specs.Control.{inputs}
+use Rattle.table.specs.Shipped.{shippedWords}
 
 -- ---- which words are taken
 
@@ -44,7 +47,7 @@ someOf (suc n) f = f 0 || someOf n (λ i. f (suc i))
 
 -- ---- the word at a place
 
--- [Memory.1] the word of the lowest input in the pattern
+-- [Memory.1] [Table.6a] the word of the lowest input in the pattern
 abbrev pub lowestWord : (words : List ℕ) (place : ℕ) → ℕ
 lowestWord words place = getD words (lowestOf inputs (bitAt place)) 0
 
@@ -62,6 +65,14 @@ tableWordOf words place = if eqb place 0 then 0 else maskOf 16 (tableBit words p
 -- [Table.4] every place from 0 on
 unfoldable pub tableOf : (places : ℕ) (words : List ℕ) → List ℕ
 tableOf places words = tabulate places (tableWordOf words)
+
+-- ---- a statement
+
+-- [Table.3] [Table.5] [Table.6b] the shipped words at the places of no input, of inputs 1, 1 and 2, 5, 12, and of all
+abbrev pub ShippedPlaces : Type 0
+ShippedPlaces =
+    map (tableWordOf shippedWords) (0x000 ∷ 0x001 ∷ 0x003 ∷ 0x010 ∷ 0x800 ∷ 0xFFF ∷ [])
+    ≡ 0x0000 ∷ 0x0119 ∷ 0x0319 ∷ 0x1055 ∷ 0x08C3 ∷ 0xFF19 ∷ []
 
 -- ---- how the code goes about it; what it comes to is proved to be the above
 

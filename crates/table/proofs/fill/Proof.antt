@@ -1,13 +1,13 @@
 -- `table::fill` meets its contract. The loop's invariant: the slice keeps its length, and each place passed has its word; the
 -- measure is what is left of the length. Written by hand over the lines that `rt dev` prints. Assumes nothing.
-use Prim.Native.Nat.{ℕ, _+_, _-_, _<_, _≤_}
-use mathlib.Core.Path.{_≡_, refl, sym, ap, _∙_}
+use Prim.Native.Nat.{ℕ, _-_, _<_}
+use mathlib.Core.Path.{_≡_, refl, _∙_}
 use native.Mathlib.Omega.{arith}
 use lib.ListN.{length, getD, length-set}
 use lib.Seq.{getD-set-same, getD-set-other}
 use borrow.Author.Count.{below-more}
 use borrow.Author.Needs.{needs}
-use Rattle.table.specs.Table.{tableWordOf, tableOf}
+use Rattle.table.specs.Table.{tableWordOf}
 use Rattle.table.proofs.TableLaws.{table-by-places}
 use Rattle.table.proofs.fill.Statement.{statement}
 use Rattle.table.proofs.fill.Tie as tie

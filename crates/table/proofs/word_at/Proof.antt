@@ -7,7 +7,7 @@ use native.Mathlib.Omega.{arith}
 use lib.ListN.{length, getD, List·getD-eq-default}
 use borrow.Author.Needs.{needs}
 use borrow.Author.Tests.{eq-eqb, ne-eqb}
-use Rattle.table.specs.Table.{overOf, tableWordOf}
+use Rattle.table.specs.Table.{overOf}
 use Rattle.table.proofs.TableChoices.{gathered, gatheredFrom, gathered-down, gathered-all, gathered-is-table}
 use Rattle.table.proofs.word_at.Statement.{statement}
 use Rattle.table.proofs.word_at.Tie as tie
