@@ -12,7 +12,7 @@ fn main() {
     println!("cargo:rerun-if-changed=src/bin/compare/fault_list.rs");
     let machine = [
         "call", "tick", "request", "state", "kept", "byte", "latch", "test", "force", "held", "mode", "speed", "order",
-        "table", "place", "setup", "text",
+        "table", "place",
     ];
     for part in machine.into_iter().chain(["account"]) {
         println!("cargo:rerun-if-changed=src/bin/compare/{part}_faults.rs");

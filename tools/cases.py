@@ -4,8 +4,8 @@
     tools/cases.py           rewrites crates/cases/stdout
     tools/cases.py --check   exits 1 if that file is not what the model answers
 
-Each script of crates/cases/data/scripts, ended there by a byte 1Eh, goes through the model's console and its save program, and so
-do two long ones that crates/cases/src/main.rt makes; a line `--` follows the answers of each, and its setup.
+Each script of crates/cases/data/scripts, ended there by a byte 1Eh, goes through the model's console, and so do two long ones
+that crates/cases/src/main.rt makes; a line `--` follows the answers of each.
 """
 import subprocess
 import sys
@@ -13,8 +13,8 @@ import sys
 from page import TOP, asks_check, need
 
 EXPECTED = TOP / "crates" / "cases" / "stdout"
-MODELS = TOP / "target" / "reference" / "release"
-BUILD = ["cargo", "build", "--quiet", "--release", "--target-dir", "../target/reference", "--bin", "console", "--bin", "save"]
+MODEL = TOP / "target" / "reference" / "release" / "console"
+BUILD = ["cargo", "build", "--quiet", "--release", "--target-dir", "../target/reference", "--bin", "console"]
 
 
 def scripts():
@@ -23,9 +23,9 @@ def scripts():
     return stored.split(b"\x1e") + [long[:65536], long]
 
 
-def model(script, program="console"):
-    """What the model's console, or another of its programs, prints for a script."""
-    return subprocess.run([MODELS / program], input=script, stdout=subprocess.PIPE, check=True).stdout
+def model(script):
+    """What the model's console prints for a script."""
+    return subprocess.run([MODEL], input=script, stdout=subprocess.PIPE, check=True).stdout
 
 
 def build_model():
@@ -36,13 +36,13 @@ def build_model():
 def main():
     check = asks_check(__doc__)
     build_model()
-    printed = [model(script, program) for script in scripts() for program in ("console", "save")]
-    expected = b"".join(text + b"--\n" for text in printed)
+    answers = [model(script) for script in scripts()]
+    expected = b"".join(answer + b"--\n" for answer in answers)
     same = EXPECTED.exists() and EXPECTED.read_bytes() == expected
     if not check:
         EXPECTED.write_bytes(expected)
     says = "as the model answers" if same or not check else "crates/cases/stdout is not what the model answers"
-    print(f"{len(printed) // 2} scripts, {says}")
+    print(f"{len(answers)} scripts, {says}")
     return 0 if same or not check else 1
 
 

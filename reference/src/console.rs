@@ -1,43 +1,19 @@
 //! The console program: a script of calls in, one answer for each line out. [Console.1]–[Console.8]
-//!
-//! The save program: a script of calls in, the setup of what it leaves out. [Setup.1]
 
 use crate::machine::{decline, Answer, Outcome, Supervisor, MEMORY_WORDS};
 
 /// The longest script that is run. [Console.1]
 pub const LONGEST_SCRIPT: usize = 65_536;
 /// What the script's first line must be. [Console.2]
-pub const FIRST_LINE: &[u8] = Supervisor::FIRST_LINE;
+pub const FIRST_LINE: &[u8] = b"supervisor\t1";
 
-/// Runs a script and gives what the console prints.
+/// Runs a script on a fresh record with all memory words 0 and gives what the console prints.
 pub fn answers(script: &[u8]) -> Vec<u8> {
     let mut out = Vec::new();
-    if let Err(number) = run(script, &mut out) {
-        print_decline(&mut out, number);
-    }
-    out
-}
-
-/// Runs a script and gives what the save program prints: the setup of what the script leaves. [Setup.1]
-pub fn saved(script: &[u8]) -> Vec<u8> {
-    let mut text = vec![0; Supervisor::LONGEST_SETUP];
-    let left = run(script, &mut Vec::new());
-    match left.and_then(|(mut supervisor, memory)| supervisor.save_setup(&memory, &mut text)) {
-        Ok(length) => text.truncate(length),
-        Err(number) => {
-            text.clear();
-            print_decline(&mut text, number);
-        }
-    }
-    text
-}
-
-/// Runs a script on a fresh record with all memory words 0, prints the answers of its lines, and gives what it leaves.
-/// Declines a bad first line or a longer script with 6, and prints nothing then. [Console.6]
-pub fn run(script: &[u8], out: &mut Vec<u8>) -> Result<(Supervisor, Vec<u16>), u8> {
     let (first, mut rest) = next_line(script);
     if script.len() > LONGEST_SCRIPT || first != FIRST_LINE {
-        return Err(decline::FORM);
+        print_decline(&mut out, decline::FORM); // [Console.6]
+        return out;
     }
     let mut supervisor = Supervisor::fresh();
     let mut memory = vec![0; MEMORY_WORDS];
@@ -45,15 +21,15 @@ pub fn run(script: &[u8], out: &mut Vec<u8>) -> Result<(Supervisor, Vec<u16>), u
         let (line, after) = next_line(rest);
         rest = after;
         let printed = match Call::parse(line) {
-            Some(call) => call.run(&mut supervisor, &mut memory, out),
+            Some(call) => call.run(&mut supervisor, &mut memory, &mut out),
             None => Err(decline::FORM),
         };
         match printed {
             Ok(()) => out.push(b'\n'),
-            Err(number) => print_decline(out, number),
+            Err(number) => print_decline(&mut out, number),
         }
     }
-    Ok((supervisor, memory))
+    out
 }
 
 /// Parts the rest of a script, from any line onward, into that line and what follows its newline. [Console.3]

@@ -21,7 +21,7 @@ use Rattle.supervisor.specs.Supervisor.{fresh_of}
 use Rattle.supervisor.specs.declared.Supervisor.{Supervisor}
 use Rattle.access.specs.Access.{requested_by}
 use Rattle.declines.specs.Answers.{Reply, declined, done, value, ticked}
-use Rattle.declines.specs.Runs.{Ask, write_register, read_register, write_memory, read_memory, fill_memory, save_setup, tick}
+use Rattle.declines.specs.Runs.{Ask, write_register, read_register, write_memory, read_memory, fill_memory, tick}
 use Rattle.declines.specs.Runs.{Call, call_of, record_after, every_ask, log_of}
 use Rattle.declines.specs.Follow.{after_call}
 use Rattle.declines.specs.Modes.{Modes}
@@ -78,14 +78,12 @@ module _ (i : ℕ) where
     call_keeps_owed (write_memory place word) done h = owed
     call_keeps_owed (read_memory place) done h = owed
     call_keeps_owed (fill_memory words) done h = owed
-    call_keeps_owed (save_setup room) done h = owed
     call_keeps_owed (tick x) done h = owed
     call_keeps_owed (write_register number run v) (ticked y) h = owed
     call_keeps_owed (read_register number run) (ticked y) h = owed
     call_keeps_owed (write_memory place word) (ticked y) h = owed
     call_keeps_owed (read_memory place) (ticked y) h = owed
     call_keeps_owed (fill_memory words) (ticked y) h = owed
-    call_keeps_owed (save_setup room) (ticked y) h = owed
     call_keeps_owed (tick x) (ticked y) h = owed
 
   -- ---- one call that loads the counter
@@ -123,7 +121,6 @@ module _ (i : ℕ) where
     load_makes_owed (write_memory place word) h = cc
     load_makes_owed (read_memory place) h = cc
     load_makes_owed (fill_memory words) h = cc
-    load_makes_owed (save_setup room) h = cc
     load_makes_owed (tick x) h = cc
 
   -- ---- the whole run

@@ -16,7 +16,7 @@ use Rattle.declines.specs.Answers.{Reply}
 use Rattle.declines.specs.Calls.{marked_of}
 use Rattle.declines.specs.Runs.{Ask, Call, record_after, Entry, log_of}
 use Rattle.declines.specs.Follow.{after_call}
-use Rattle.declines.proofs.CallEnds.{End, refused, refused_active, wrote, read, gave, stored, filled, saved, ran, held}
+use Rattle.declines.proofs.CallEnds.{End, refused, refused_active, wrote, read, gave, stored, filled, ran, held}
 use Rattle.declines.proofs.CallEnds.{Chain, stop, then, run_is_chain}
 use Rattle.declines.proofs.ModesLaws.{marked_keeps_modes}
 use Rattle.account.specs.AccountFields.{Account}
@@ -44,7 +44,6 @@ end_keeps_invariant {s = s} a v (read number run n) = read_keeps_invariant s a v
 end_keeps_invariant a v (gave place n) = v
 end_keeps_invariant a v (stored place word) = v
 end_keeps_invariant a v (filled words taken) = v
-end_keeps_invariant a v (saved room fits) = v
 end_keeps_invariant {memory = memory} {s = s} a v (ran x clean runs) = ran_keeps_invariant memory x s clean a runs v
 end_keeps_invariant {s = s} a v (held x stands) = held_keeps_invariant x s stands a v
 

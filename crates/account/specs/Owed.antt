@@ -22,7 +22,7 @@ use Rattle.registers.specs.declared.register.Setting.TheVariants.{Control, Facto
 use Rattle.supervisor.specs.Supervisor.{fresh_of}
 use Rattle.access.specs.Access.{requested_by}
 use Rattle.declines.specs.Answers.{done}
-use Rattle.declines.specs.Runs.{Ask, write_register, read_register, write_memory, read_memory, fill_memory, save_setup, tick}
+use Rattle.declines.specs.Runs.{Ask, write_register, read_register, write_memory, read_memory, fill_memory, tick}
 use Rattle.declines.specs.Runs.{Call, call_of, record_after, every_ask, log_of}
 use Rattle.account.specs.AccountFields.{Account}
 use Rattle.account.specs.Account.{start, account_of}
@@ -53,7 +53,6 @@ keeps_factor i (read_register number run) = true
 keeps_factor i (write_memory place word) = true
 keeps_factor i (read_memory place) = true
 keeps_factor i (fill_memory words) = true
-keeps_factor i (save_setup room) = true
 keeps_factor i (tick x) = true
 
 -- ---- a load
@@ -79,7 +78,6 @@ loads i (read_register number run) = false
 loads i (write_memory place word) = false
 loads i (read_memory place) = false
 loads i (fill_memory words) = false
-loads i (save_setup room) = false
 loads i (tick x) = false
 
 -- ---- the two promises

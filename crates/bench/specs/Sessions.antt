@@ -16,7 +16,7 @@ use Rattle.sequencer.specs.States.{is_cleared, outcome_words}
 use Rattle.supervisor.specs.declared.Supervisor.{Supervisor}
 use Rattle.supervisor.specs.declared.Answer.{Answer}
 use Rattle.declines.specs.Answers.{Reply, declined, done, value, ticked, decline_or_zero}
-use Rattle.declines.specs.Runs.{Ask, write_register, read_register, write_memory, read_memory, fill_memory, save_setup, tick}
+use Rattle.declines.specs.Runs.{Ask, write_register, read_register, write_memory, read_memory, fill_memory, tick}
 use Rattle.declines.specs.Runs.{Result, ask_of, memory_after, Session, session, fresh_session, after, Call, Entry, log_of}
 
 -- ---- the replies to a session's asks
@@ -29,7 +29,6 @@ answered (read_register number run) memory s = ask_of (read_register number run)
 answered (write_memory place word) memory s = ask_of (write_memory place word) memory s
 answered (read_memory place) memory s = ask_of (read_memory place) memory s
 answered (fill_memory words) memory s = ask_of (fill_memory words) memory s
-answered (save_setup room) memory s = ask_of (save_setup room) memory s
 answered (tick x) memory s = ask_of (tick x) memory s
 
 -- each ask is made of the record, and lent the memory, that the one before left

@@ -1,19 +1,17 @@
-// The public calls (document 01, "When a call is declined"; document 02, N4, N5, N7, N8). Each takes the record by value, refuses bad
+// The public calls (document 01, "When a call is declined"; document 02, N4, N5, N7). Each takes the record by value, refuses bad
 // input by itself, and hands back the next record with its answer. No call has a `requires`; each contract is an equality
 // with a definition of crate `declines`, for every record and every memory; `write_memory` and `fill_memory` have one more, for
-// the memory, and `save_setup` one for the buffer.
-ghost use Rattle.std.specs.Prelude.{◌≡◌, length};
+// the memory.
+ghost use Rattle.std.specs.Prelude.{◌≡◌};
 ghost use Rattle.declines.specs.Calls.{is_guarded_of};
 ghost use Rattle.declines.specs.Calls.{write_run_of, read_run_of, write_register_of, read_register_of, write_bytes_of, read_bytes_of};
 ghost use Rattle.declines.specs.Calls.{write_memory_of, memory_after_of, read_memory_of, tick_of};
 ghost use Rattle.declines.specs.Fill.{fill_memory_of, memory_filled_of};
-ghost use Rattle.declines.specs.Save.{save_setup_of, buffer_saved_of};
 
 use access::{after_read, merged, shown, written};
 use declines::{
     BytesDecline, BytesReadDone, BytesReading, BytesVerdict, BytesWriteDone, Decline, FillDecline,
-    FillDone, FillVerdict, ReadDone, Reading, SaveAnswer, SaveDecline, SaveDone, TickDone, Verdict,
-    WriteDone,
+    FillDone, FillVerdict, ReadDone, Reading, TickDone, Verdict, WriteDone,
 };
 use registers::csr::Csr;
 use registers::register::Register;
@@ -24,8 +22,7 @@ use trigger::lines::Inputs;
 mod refusals;
 
 use refusals::{
-    by_bytes, marked, read_by_bytes, refused, refused_fill, refused_read, refused_save,
-    refused_tick,
+    by_bytes, marked, read_by_bytes, refused, refused_fill, refused_read, refused_tick,
 };
 
 // [Memory.1]
@@ -227,34 +224,6 @@ pub fn fill_memory(s: Supervisor, memory: &mut [u16], words: [u16; 12]) -> FillD
     FillDone {
         next: s,
         answer: FillVerdict::Done,
-    }
-}
-
-// [Setup.2] [Setup.7a] [Setup.7b] [Setup.8] the settings and the memory, as a script at the start of the buffer that is lent
-pub fn save_setup(s: Supervisor, memory: &[u16], out: &mut [u8]) -> SaveDone
-    ensures value { result ≡ save_setup_of memory.now (length out.old) s }
-    ensures out_after { out.new ≡ buffer_saved_of memory.now out.old s }
-{
-    if s.is_spoiled() {
-        return refused_save(s, SaveDecline::Plain(Decline::Spoiled));
-    }
-    if memory.len() != MEMORY_PLACES {
-        return refused_save(s, SaveDecline::Plain(Decline::Length));
-    }
-    if s.is_active() {
-        return refused_save(
-            marked(s, Csr::READ_ERROR),
-            SaveDecline::Plain(Decline::Active),
-        );
-    }
-    let len = setup::text_length(s, memory);
-    if out.len() < len {
-        return refused_save(s, SaveDecline::ShortBuffer);
-    }
-    setup::put_setup(out, s, memory);
-    SaveDone {
-        next: s,
-        answer: SaveAnswer::Saved(len),
     }
 }
 

@@ -2,13 +2,12 @@
 ghost use Rattle.std.specs.Prelude.{◌≡◌};
 ghost use Rattle.declines.specs.Calls.{marked_of, refuse, refuse_read, refuse_tick, bytes_write_of, bytes_read_of};
 ghost use Rattle.declines.specs.Fill.{refuse_fill};
-ghost use Rattle.declines.specs.Save.{refuse_save};
 
 use branch::Slot;
 use branches::Side;
 use declines::{
     BytesReadDone, BytesWriteDone, Decline, FillDecline, FillDone, FillVerdict, ReadDone, Reading,
-    SaveAnswer, SaveDecline, SaveDone, TickDone, Verdict, WriteDone,
+    TickDone, Verdict, WriteDone,
 };
 use sequencer::states::Outcome;
 use supervisor::{Answer, Supervisor};
@@ -50,15 +49,6 @@ pub fn refused_fill(s: Supervisor, why: FillDecline) -> FillDone
     FillDone {
         next: s,
         answer: FillVerdict::Declined(why),
-    }
-}
-
-pub fn refused_save(s: Supervisor, why: SaveDecline) -> SaveDone
-    ensures { result ≡ refuse_save why s }
-{
-    SaveDone {
-        next: s,
-        answer: SaveAnswer::Declined(why),
     }
 }
 

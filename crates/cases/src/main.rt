@@ -1,5 +1,5 @@
-// Runs the stored scripts of data/scripts through the library and prints the answers of each and the setup that it leaves, with
-// a line `--` after both. A byte 1Eh ends each script there. Two more scripts, of 65,536 and 65,537 bytes, are made here. What must be printed,
+// Runs the stored scripts of data/scripts through the library and prints the answers of each, with a line `--` after it.
+// A byte 1Eh ends each script there. Two more scripts, of 65,536 and 65,537 bytes, are made here. What must be printed,
 // in the file stdout, comes from the model in reference/ and never from this program.
 ghost use Rattle.std.specs.Prelude.{◌≡◌, length};
 
@@ -11,23 +11,11 @@ const END_OF_SCRIPT: u8 = 30;
 // One byte more than the longest script that is run.
 const LONG: usize = 65537;
 
-fn answer(script: &[u8]) {
+fn run(script: &[u8]) {
     let mut out = script::output_buffer();
     let printed = script::answers(script, &mut out);
     io::write_all(STDOUT_FILENO, &out[..printed]);
     io::write_all(STDOUT_FILENO, b"--\n");
-}
-
-fn save(script: &[u8]) {
-    let mut out = script::output_buffer();
-    let printed = script::saved(script, &mut out);
-    io::write_all(STDOUT_FILENO, &out[..printed]);
-    io::write_all(STDOUT_FILENO, b"--\n");
-}
-
-fn run(script: &[u8]) {
-    answer(script);
-    save(script);
 }
 
 fn run_all(scripts: &[u8]) {

@@ -6,7 +6,7 @@
 use Rattle.std.proofs.Common.{◌≡◌, ℕ, List, [], ◌∷◌, refl, ap, ◌∙◌}
 use Rattle.supervisor.specs.declared.Supervisor.{Supervisor}
 use Rattle.declines.specs.Answers.{Reply}
-use Rattle.declines.specs.Runs.{Ask, write_register, read_register, write_memory, read_memory, fill_memory, save_setup, tick}
+use Rattle.declines.specs.Runs.{Ask, write_register, read_register, write_memory, read_memory, fill_memory, tick}
 use Rattle.declines.specs.Runs.{Result, ask_of, memory_after, Session, session, reply_to, after}
 use Rattle.bench.specs.Sessions.{answered, replies_by, replies_logged}
 use Rattle.bench.proofs.SessionsLaws.{replies_are_logged}
@@ -17,7 +17,6 @@ answered_is_asked (read_register n run) memory s = refl
 answered_is_asked (write_memory p w) memory s = refl
 answered_is_asked (read_memory p) memory s = refl
 answered_is_asked (fill_memory words) memory s = refl
-answered_is_asked (save_setup room) memory s = refl
 answered_is_asked (tick x) memory s = refl
 
 replies_alike : (asks : List Ask) (z : Session) → replies_by answered asks z ≡ replies_by ask_of asks z

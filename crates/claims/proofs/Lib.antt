@@ -7,4 +7,3 @@ pub mod BytesProved
 pub mod TestModeProved
 pub mod OrderProved
 pub mod TableProved
-pub mod SetupProved

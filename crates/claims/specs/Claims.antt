@@ -12,13 +12,10 @@
 --     write_memory           declines/specs/Calls, write_memory_of, and memory_after_of for the memory after it
 --     read_memory            declines/specs/Calls, read_memory_of; the memory is lent for reading only
 --     fill_memory            declines/specs/Fill, fill_memory_of, and memory_filled_of for the memory after it
---     save_setup             declines/specs/Save, save_setup_of, and buffer_saved_of for the buffer after it; the memory is lent for
---                            reading only
 --     tick                   declines/specs/Calls, tick_of; the memory is lent for reading only
--- The contracts of the console and of the program that saves are proved in `script`, for every script:
+-- The console's contract is proved in `script`, for every script:
 --     answers                script/specs/Script, answersOf: the bytes printed, which always fit; the rest of the buffer
 --                            is left open
---     saved                  script/specs/Saved, savedTextOf: likewise
 -- That a function is proved says besides that it does nothing undefined and that it ends.
 -- Assumes nothing.
 use Rattle.std.specs.Prelude.{◌≡◌, ℕ, ◌<◌, true, false, List, [], ◌∷◌, ◌++◌, length, ◌==◌}

@@ -6,4 +6,3 @@ pub mod Bytes
 pub mod TestMode
 pub mod Order
 pub mod Table
-pub mod Setup

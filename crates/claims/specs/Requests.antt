@@ -1,4 +1,4 @@
--- What is claimed of document 02's requests N1 and N2, for every value of the types; N4 has Bytes, N5 TestMode, N6 Order, N7 Table, N8 Setup;
+-- What is claimed of document 02's requests N1 and N2, for every value of the types; N4 has Bytes, N5 TestMode, N6 Order, N7 Table;
 -- what they change of document 01's claims stands with those. proofs/RequestsProved.antt proves each by citing its law.
 -- Assumes nothing.
 use Rattle.std.specs.Prelude.{◌≡◌, ℕ, suc, ◌<◌, Bool, true, false, List}

@@ -1,7 +1,7 @@
 -- The order of the declines: the number of a call is that of its first failing test, whatever is asked.
 --     declines_in_order   the tests of a call, one after the other, are those of the table in Refusals
 -- Assumes nothing.
-use Rattle.std.proofs.Common.{◌≡◌, ℕ, Bool, true, false, cond, not, ◌&&◌, eqb, ltb, leb, List, length, get_or, refl}
+use Rattle.std.proofs.Common.{◌≡◌, ℕ, Bool, true, false, cond, not, ◌&&◌, eqb, leb, List, length, get_or, refl}
 use Rattle.registers.specs.Csr.{write_error, read_error}
 use Rattle.run.specs.Run.{is_run_of, has_byte3}
 use Rattle.run.specs.declared.Run.{Run}
@@ -28,24 +28,18 @@ use Rattle.declines.specs.declared.FillDecline.{FillDecline}
 use Rattle.declines.specs.declared.FillDecline.TheVariants.{Plain, BadWord}
 use Rattle.declines.specs.declared.FillVerdict.TheVariants as fillVerdict
 use Rattle.declines.specs.declared.FillDone.{FillDone}
-use Rattle.declines.specs.declared.SaveDecline.{SaveDecline}
-use Rattle.declines.specs.declared.SaveDecline.TheVariants as saveDecline
-use Rattle.declines.specs.declared.SaveAnswer.TheVariants as saveAnswer
-use Rattle.declines.specs.declared.SaveDone.{SaveDone}
 use Rattle.declines.specs.declared.TickDone.{TickDone}
 use Rattle.declines.specs.Answers.{verdict_reply, reading_reply, tick_reply}
 use Rattle.declines.specs.Answers.{bytes_verdict_reply, bytes_reading_reply}
-use Rattle.declines.specs.Answers.{decline_number, fill_decline_number, fill_reply, save_decline_number, save_reply, decline_or_zero}
+use Rattle.declines.specs.Answers.{decline_number, fill_decline_number, fill_reply, decline_or_zero}
 use Rattle.access.specs.Access.{merged_of, written_of}
-use Rattle.setup.specs.Setup.{setup_text}
 use Rattle.declines.specs.Calls.{memory_places, marked_of, is_guarded_of, refuse}
 use Rattle.declines.specs.Calls.{refuse_read, refuse_tick, bytes_write_of, bytes_read_of}
 use Rattle.declines.specs.Calls.{write_run_of, read_run_of, write_bytes_of, read_bytes_of}
 use Rattle.declines.specs.Calls.{write_memory_of, read_memory_of}
 use Rattle.declines.specs.Calls.{is_out_of_range, tick_of}
 use Rattle.declines.specs.Fill.{refuse_fill, fill_memory_of}
-use Rattle.declines.specs.Save.{refuse_save, save_setup_of}
-use Rattle.declines.specs.Runs.{Ask, write_register, read_register, write_memory, read_memory, fill_memory, save_setup, tick, ask_of}
+use Rattle.declines.specs.Runs.{Ask, write_register, read_register, write_memory, read_memory, fill_memory, tick, ask_of}
 use Rattle.declines.specs.Refusals.{refusals_of, first_of}
 
 -- ---- which number, and in what order
@@ -70,9 +64,6 @@ bytes_read_number r = decline_or_zero (bytes_reading_reply r.answer)
 fill_number : FillDone → ℕ
 fill_number r = decline_or_zero (fill_reply r.answer)
 
-save_number : SaveDone → ℕ
-save_number r = decline_or_zero (save_reply r.answer)
-
 tick_number : TickDone → ℕ
 tick_number r = decline_or_zero (tick_reply r.verdict r.answer)
 
@@ -88,10 +79,6 @@ fill_refused : (d : FillDecline) (s : Supervisor) → fill_number (refuse_fill d
 unfolding fill_number
 fill_refused d s = refl
 
-save_refused : (d : SaveDecline) (s : Supervisor) → save_number (refuse_save d s) ≡ save_decline_number d
-unfolding save_number
-save_refused d s = refl
-
 tick_refused : (d : Decline) (s : Supervisor) → tick_number (refuse_tick d s) ≡ decline_number d
 unfolding tick_number
 tick_refused d s = refl
@@ -103,10 +90,6 @@ write_done s = refl
 fill_done : (s : Supervisor) → fill_number (record { next = s; answer = fillVerdict.Done }) ≡ 0
 unfolding fill_number
 fill_done s = refl
-
-save_done : (s : Supervisor) (n : ℕ) → save_number (record { next = s; answer = saveAnswer.Saved n }) ≡ 0
-unfolding save_number
-save_done s n = refl
 
 read_done : (s : Supervisor) (v : ℕ) → read_number (record { next = s; answer = reading.Value v }) ≡ 0
 unfolding read_number
@@ -202,16 +185,6 @@ module _ (memory : List ℕ) (s : Supervisor) where
       (number_by fill_number (is_active_of s) (fill_refused (Plain Active) (marked_of write_error s))
       (number_by fill_number (not (are_taken words)) (fill_refused BadWord s) (fill_done s))))
 
-  save_setup_number : (room : ℕ)
-      → save_number (save_setup_of memory room s) ≡ first_of (refusals_of (save_setup room) memory s)
-  unfolding save_setup_of
-  save_setup_number room =
-      number_by save_number (is_spoiled_of s) (save_refused (saveDecline.Plain Spoiled) s)
-      (number_by save_number other_length (save_refused (saveDecline.Plain Length) s)
-      (number_by save_number (is_active_of s) (save_refused (saveDecline.Plain Active) (marked_of read_error s))
-      (number_by save_number (ltb room (length (setup_text s memory))) (save_refused saveDecline.ShortBuffer s)
-      (save_done s (length (setup_text s memory))))))
-
   ticks_number : (x : Inputs) → tick_number (tick_of memory x s) ≡ first_of (refusals_of (tick x) memory s)
   unfolding tick_of
   ticks_number x =
@@ -223,11 +196,10 @@ module _ (memory : List ℕ) (s : Supervisor) where
 -- [Declines.1a] the tests of a call, one after the other, are those of the table
 pub declines_in_order : (a : Ask) (memory : List ℕ) (s : Supervisor)
     → decline_or_zero (ask_of a memory s).reply ≡ first_of (refusals_of a memory s)
-unfolding write_number bytes_write_number read_number bytes_read_number fill_number save_number tick_number
+unfolding write_number bytes_write_number read_number bytes_read_number fill_number tick_number
 declines_in_order (write_register number run v) memory s = write_register_number memory s number run v
 declines_in_order (read_register number run) memory s = read_register_number memory s number run
 declines_in_order (write_memory place word) memory s = write_memory_number memory s place word
 declines_in_order (read_memory place) memory s = read_memory_number memory s place
 declines_in_order (fill_memory words) memory s = fill_memory_number memory s words
-declines_in_order (save_setup room) memory s = save_setup_number memory s room
 declines_in_order (tick x) memory s = ticks_number memory s x

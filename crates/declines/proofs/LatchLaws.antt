@@ -39,7 +39,7 @@ use Rattle.declines.specs.Calls.{marked_of, write_run_of, read_run_of, write_byt
 use Rattle.declines.specs.Runs.{Ask, write_register, read_register, plain_read, ask_of, call_of, every_ask}
 use Rattle.declines.specs.Latches.{cut_reply, is_scaler, latch_at, scaler_at, with_latched, without_latches, scaler_number}
 use Rattle.declines.specs.Latches.{is_initialize, write_leaves_latch, read_leaves_latch, leaves_latch, LatchStands}
-use Rattle.declines.proofs.CallEnds.{End, refused, refused_active, wrote, read, gave, stored, filled, saved, ran, held}
+use Rattle.declines.proofs.CallEnds.{End, refused, refused_active, wrote, read, gave, stored, filled, ran, held}
 use Rattle.declines.proofs.CallEnds.{call_ends}
 
 -- ---- what a read leaves and gives
@@ -215,7 +215,6 @@ module _ (n : ℕ) (below : n < 2) (s : Supervisor) where
   end_leaves h (gave place v) = refl
   end_leaves h (stored place word) = refl
   end_leaves h (filled words taken) = refl
-  end_leaves h (saved room fits) = refl
   end_leaves h (ran x clean runs) = refl
   end_leaves h (held x stands) = refl
 

@@ -4,7 +4,6 @@ pub mod FollowLaws
 pub mod DeclinesLaws
 pub mod CallsLaws
 pub mod FillLaws
-pub mod SaveLaws
 pub mod FilledMemory
 pub mod ModesLaws
 pub mod StateCallsLaws

@@ -33,7 +33,7 @@ use Rattle.declines.specs.Runs.{Ask}
 use Rattle.declines.specs.Follow.{after_call}
 use Rattle.declines.specs.Modes.{Modes, switched, after_request, after_write, runs, after_tick, rules, modes_in}
 use Rattle.declines.specs.Modes.{FollowsTheModes}
-use Rattle.declines.proofs.CallEnds.{End, refused, refused_active, wrote, read, gave, stored, filled, saved, ran, held}
+use Rattle.declines.proofs.CallEnds.{End, refused, refused_active, wrote, read, gave, stored, filled, ran, held}
 use Rattle.declines.proofs.CallEnds.{run_is_chain}
 use Rattle.declines.proofs.FollowLaws.{chain_follows}
 
@@ -126,7 +126,6 @@ module _ (s : Supervisor) where
   end_keeps_modes (gave place v) = refl
   end_keeps_modes (stored place word) = refl
   end_keeps_modes (filled words taken) = refl
-  end_keeps_modes (saved room fits) = refl
   end_keeps_modes {memory = memory} (ran x clean unheld) = ran_keeps_modes memory _ unheld
   end_keeps_modes (held x stands) = held_keeps_modes stands
 

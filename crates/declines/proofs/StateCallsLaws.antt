@@ -33,7 +33,7 @@ use Rattle.declines.specs.Runs.{Ask, write_register, plain_read, ask_of}
 use Rattle.declines.specs.Follow.{after_call}
 use Rattle.declines.specs.Modes.{Modes, runs, modes_in}
 use Rattle.declines.specs.LatestTick.{Seen, after_request, tick_after_write, tick_seen, rules, KeepsTheLatestTick}
-use Rattle.declines.proofs.CallEnds.{End, refused, refused_active, wrote, read, gave, stored, filled, saved, ran, held}
+use Rattle.declines.proofs.CallEnds.{End, refused, refused_active, wrote, read, gave, stored, filled, ran, held}
 use Rattle.declines.proofs.CallEnds.{run_is_chain}
 use Rattle.declines.proofs.FollowLaws.{chain_follows}
 use Rattle.declines.proofs.ModesLaws.{runs_unless_held, write_keeps_modes, read_keeps_modes, marked_keeps_modes}
@@ -130,7 +130,6 @@ module _ (s : Supervisor) where
   end_keeps_seen (gave place v) = refl
   end_keeps_seen (stored place word) = refl
   end_keeps_seen (filled words taken) = refl
-  end_keeps_seen (saved room fits) = refl
   end_keeps_seen {memory = memory} (ran x clean unheld) =
       both (ran_keeps_modes s memory _ unheld) (ran_is_latest memory x unheld)
   end_keeps_seen (held x stands) = both (held_keeps_modes s stands) (rw (runs_unless_held s, stands))

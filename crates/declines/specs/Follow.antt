@@ -13,7 +13,7 @@ use Rattle.registers.specs.declared.register.Register.{Register}
 use Rattle.trigger.specs.declared.lines.Inputs.{Inputs}
 use Rattle.supervisor.specs.declared.Answer.{Answer}
 use Rattle.declines.specs.Answers.{Reply, declined, done, value, ticked}
-use Rattle.declines.specs.Runs.{Ask, write_register, read_register, write_memory, read_memory, fill_memory, save_setup, tick, Entry}
+use Rattle.declines.specs.Runs.{Ask, write_register, read_register, write_memory, read_memory, fill_memory, tick, Entry}
 
 pub record Rules (A : Type 0) : Type 0 where
   pub wrote : Register → Run → (v : ℕ) → A → A
@@ -26,7 +26,6 @@ after_done rules (read_register number run) a = a
 after_done rules (write_memory place word) a = a
 after_done rules (read_memory place) a = a
 after_done rules (fill_memory words) a = a
-after_done rules (save_setup room) a = a
 after_done rules (tick x) a = a
 
 abbrev pub after_ticked : {A : Type 0} → Rules A → Ask → Answer → A → A
@@ -35,7 +34,6 @@ after_ticked rules (read_register number run) y a = a
 after_ticked rules (write_memory place word) y a = a
 after_ticked rules (read_memory place) y a = a
 after_ticked rules (fill_memory words) y a = a
-after_ticked rules (save_setup room) y a = a
 after_ticked rules (tick x) y a = rules.ticked x y a
 
 -- [Account.5] a decline and a value read leave it alone, whatever was asked

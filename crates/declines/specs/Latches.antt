@@ -24,7 +24,7 @@ use Rattle.supervisor.specs.Supervisor.{on_core}
 use Rattle.supervisor.specs.declared.Supervisor.{Supervisor}
 use Rattle.access.specs.Access.{requested_by}
 use Rattle.declines.specs.Answers.{Reply, declined, done, value, ticked}
-use Rattle.declines.specs.Runs.{Ask, write_register, read_register, write_memory, read_memory, fill_memory, save_setup, tick}
+use Rattle.declines.specs.Runs.{Ask, write_register, read_register, write_memory, read_memory, fill_memory, tick}
 use Rattle.declines.specs.Runs.{Call, record_after, every_ask}
 
 -- ---- registers by what a call by a run of bytes does with them
@@ -110,7 +110,6 @@ leaves_latch n (read_register number run) = read_leaves_latch n (numbered_of num
 leaves_latch n (write_memory place word) = true
 leaves_latch n (read_memory place) = true
 leaves_latch n (fill_memory words) = true
-leaves_latch n (save_setup room) = true
 leaves_latch n (tick x) = true
 
 -- [Bytes.5a] [Bytes.5b] from any record

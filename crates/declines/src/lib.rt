@@ -2,7 +2,7 @@
 // answers, and in what order it declines, is defined in specs/; crate `calls` has the calls themselves.
 ghost use Rattle.std.specs.Prelude.{◌≡◌, ◌≤◌};
 ghost use Rattle.declines.specs.Answers.{decline_number, bytes_decline_number, bytes_verdict_of, bytes_reading_of};
-ghost use Rattle.declines.specs.Answers.{fill_decline_number, save_decline_number};
+ghost use Rattle.declines.specs.Answers.{fill_decline_number};
 
 use supervisor::{Answer, Supervisor};
 
@@ -111,36 +111,6 @@ pub enum FillVerdict {
     Declined(FillDecline),
 }
 
-// Why a setup is not saved: as a memory read is declined, or the buffer is shorter than the text.
-#[derive(Drop)]
-pub enum SaveDecline {
-    Plain(Decline),
-    ShortBuffer,
-}
-
-impl SaveDecline {
-    // [Setup.7a]
-    pub const SHORT_BUFFER: u8 = 9;
-
-    // [Declines.1a] [Setup.7a] the documents' number; the second clause is that it has one digit
-    pub fn number(self) -> u8
-        ensures value { result ≡ save_decline_number self }
-        ensures upper_bound { result ≤ 9 }
-    {
-        match self {
-            SaveDecline::Plain(why) => why.number(),
-            SaveDecline::ShortBuffer => SaveDecline::SHORT_BUFFER,
-        }
-    }
-}
-
-// The answer to a save: the length of the text, which is at the start of the buffer.
-#[derive(Drop)]
-pub enum SaveAnswer {
-    Saved(usize),
-    Declined(SaveDecline),
-}
-
 impl Verdict {
     // a plain write's answer, as the answer to a write by a run
     pub fn by_bytes(self) -> BytesVerdict
@@ -193,12 +163,6 @@ pub struct BytesReadDone {
 pub struct FillDone {
     pub next: Supervisor,
     pub answer: FillVerdict,
-}
-
-#[derive(Drop)]
-pub struct SaveDone {
-    pub next: Supervisor,
-    pub answer: SaveAnswer,
 }
 
 #[derive(Drop)]

@@ -4,7 +4,7 @@ use branch::Slot;
 use branches::Side;
 use declines::{
     BytesReadDone, BytesReading, BytesVerdict, BytesWriteDone, FillDone, FillVerdict, ReadDone,
-    Reading, SaveAnswer, TickDone, Verdict, WriteDone,
+    Reading, TickDone, Verdict, WriteDone,
 };
 use numbers::wide;
 use sequencer::states::Outcome;
@@ -105,14 +105,6 @@ pub fn fill_reply(r: FillDone) -> Reply {
     match answer {
         FillVerdict::Done => short_reply(next, 0, 0),
         FillVerdict::Declined(why) => short_reply(next, why.number() as u64, 0)
-    }
-}
-
-// The length of a saved text, or the number of the decline in the upper half.
-pub fn save_number(answer: SaveAnswer) -> u64 {
-    match answer {
-        SaveAnswer::Saved(length) => length as u64,
-        SaveAnswer::Declined(why) => (why.number() as u64) << 32
     }
 }
 

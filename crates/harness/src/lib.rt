@@ -8,8 +8,8 @@ use trigger::lines::Inputs;
 mod answer;
 
 use answer::{
-    Reply, bytes_read_reply, bytes_write_reply, fill_reply, fresh_reply, read_reply, save_number,
-    tick_reply, write_reply,
+    Reply, bytes_read_reply, bytes_write_reply, fill_reply, fresh_reply, read_reply, tick_reply,
+    write_reply,
 };
 
 // A call is 4 numbers: its kind and its arguments.
@@ -111,15 +111,4 @@ pub extern "C" fn run_calls(
     }
     put_record(record, s);
     count as u64
-}
-
-// Saves the setup of a record and a memory into a buffer, leaves the record after it, and gives the text's length, or the
-// number of the decline in the upper half.
-#[unsafe(no_mangle)]
-pub extern "C" fn save_setup(record: &mut [u64], memory: &[u16], out: &mut [u8]) -> u64 {
-    let done = calls::save_setup(record_in(record), memory, out);
-    let next = done.next;
-    let answer = done.answer;
-    put_record(record, next);
-    save_number(answer)
 }

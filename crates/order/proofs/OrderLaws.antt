@@ -10,7 +10,7 @@ use Rattle.bits.proofs.TestLaws.{and_left, and_right, by_cond}
 use Rattle.run.specs.declared.Run.{Run}
 use Rattle.registers.proofs.RegistersLaws.{SettingAt, protected_is_setting}
 use Rattle.declines.specs.Answers.{Reply}
-use Rattle.declines.specs.Runs.{Ask, write_register, read_register, write_memory, read_memory, fill_memory, save_setup, tick, Session, reply_to, after}
+use Rattle.declines.specs.Runs.{Ask, write_register, read_register, write_memory, read_memory, fill_memory, tick, Session, reply_to, after}
 use Rattle.order.specs.EitherOrder.{after_all, replies_from, EitherOrder, is_setting_number}
 use Rattle.order.specs.EitherOrder.{Target, setting, place, none, target_of, are_apart, is_apart_from, scripts_are_apart}
 use Rattle.order.proofs.WriteEnds.{kind_of, reply_of, number, ended, write_ends}
@@ -72,7 +72,6 @@ sets (read_register n run) = nothing (read_register n run)
 sets (write_memory p word) = a_place p word
 sets (read_memory p) = nothing (read_memory p)
 sets (fill_memory words) = nothing (fill_memory words)
-sets (save_setup room) = nothing (save_setup room)
 sets (tick x) = nothing (tick x)
 
 differ : (m n : ℕ) → not (eqb m n) ≡ true → m ≡ n → ⊥

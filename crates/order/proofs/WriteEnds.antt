@@ -23,7 +23,7 @@ use Rattle.declines.specs.declared.BytesWriteDone.{BytesWriteDone}
 use Rattle.declines.specs.Calls.{memory_places, marked_of, is_guarded_of, bytes_write_of, unless_declined}
 use Rattle.declines.specs.Calls.{write_run_of, write_bytes_of, write_memory_of, memory_after_of}
 use Rattle.declines.specs.Refusals.{refusals_of, first_of}
-use Rattle.declines.specs.Runs.{Ask, write_register, read_register, write_memory, read_memory, fill_memory, save_setup, tick}
+use Rattle.declines.specs.Runs.{Ask, write_register, read_register, write_memory, read_memory, fill_memory, tick}
 use Rattle.declines.specs.Runs.{Session, session, reply_to, after}
 
 pub data Write : Ask → Type 0 where
@@ -60,7 +60,6 @@ carried_out (read_register n run) z = z
 carried_out (write_memory p word) z = session z.supervisor (set z.memory p word)
 carried_out (read_memory p) z = z
 carried_out (fill_memory words) z = z
-carried_out (save_setup room) z = z
 carried_out (tick x) z = z
 
 -- [Declines.2c] [Declines.4d]
@@ -79,7 +78,6 @@ Takes (read_register n run) z = Unit {0}
 Takes (write_memory p word) z = Unit {0}
 Takes (read_memory p) z = Unit {0}
 Takes (fill_memory words) z = Unit {0}
-Takes (save_setup room) z = Unit {0}
 Takes (tick x) z = Unit {0}
 
 -- ---- every write ends so

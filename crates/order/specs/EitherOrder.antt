@@ -13,7 +13,7 @@ use Rattle.std.specs.Prelude.{◌≡◌, ℕ, Bool, true, false, not, ◌&&◌, 
 use Rattle.bits.specs.Notation.{if◌then◌else◌}
 use Rattle.registers.specs.Registers.{numbered_of, facts_of}
 use Rattle.declines.specs.Answers.{Reply}
-use Rattle.declines.specs.Runs.{Ask, write_register, read_register, write_memory, read_memory, fill_memory, save_setup, tick}
+use Rattle.declines.specs.Runs.{Ask, write_register, read_register, write_memory, read_memory, fill_memory, tick}
 use Rattle.declines.specs.Runs.{Session, reply_to, after}
 
 -- ---- a script: each ask is made of the session that the one before left
@@ -54,7 +54,6 @@ target_of (read_register number run) = none
 target_of (write_memory p word) = place p
 target_of (read_memory p) = none
 target_of (fill_memory words) = none
-target_of (save_setup room) = none
 target_of (tick x) = none
 
 -- [Order.2] different registers, different places

@@ -70,7 +70,7 @@ spaced (f ∷ (g ∷ fs)) = f ++ (space ∷ spaced (g ∷ fs))
 
 -- ---- answers
 
--- [Console.5] the word `no` and the number, which is at most 6, or 9 where a setup is saved: one digit
+-- [Console.5] the word `no` and the number, which is at most 6: one digit
 abbrev pub no_text : (number : ℕ) → List ℕ
 no_text number = spaced ((110 ∷ 111 ∷ []) ∷ ((48 + number) ∷ []) ∷ [])
 

@@ -11,7 +11,7 @@ use Rattle.supervisor.specs.declared.Supervisor.{Supervisor}
 use Rattle.declines.specs.Answers.{Reply}
 use Rattle.declines.specs.Calls.{marked_of}
 use Rattle.declines.specs.Runs.{Ask, Call, call_of, record_after, Entry}
-use Rattle.declines.proofs.CallEnds.{End, refused, refused_active, wrote, read, gave, stored, filled, saved, ran, held, call_ends}
+use Rattle.declines.proofs.CallEnds.{End, refused, refused_active, wrote, read, gave, stored, filled, ran, held, call_ends}
 use Rattle.declines.proofs.CallEnds.{Chain, stop, then, run_is_chain}
 use Rattle.declines.specs.Refusals.{status_bit}
 use Rattle.reach.specs.NeverSpoiled.{OfType, KeepsUnspoiled, NeverSpoiled}
@@ -52,7 +52,6 @@ end_keeps_fine {s = s} fine (read number run v) =
 end_keeps_fine fine (gave place v) = fine
 end_keeps_fine fine (stored place word) = fine
 end_keeps_fine fine (filled words taken) = fine
-end_keeps_fine fine (saved room fits) = fine
 end_keeps_fine {memory = memory} {s = s} fine (ran x clean runs) =
     record {
       of_type = tick_keeps_type memory (in_force_of x s) s fine.of_type fine.unspoiled;

@@ -1,35 +1,69 @@
 -- The laws of the loop over the lines: a turn prints the answer of one line, and there is always room for it.
 --     len_at, command_at  the length of the line at a place, and what it asks
---     turn_keeps_room, turn_keeps_answers, turn_keeps_session   what the loop's invariant says is kept by a turn
---     answers_none, session_none   at the end of the script nothing is left to answer or to run
---     no_printed        `no` and a number, printed first, is all that is printed
---     long_script, short_script   whether a script is run; Runs, run-has-lines: its lines where it is
---     run_starts        where its lines start; run_prints, run_leaves, not-run-prints: what is printed of it, and what it leaves
+--     written_at, written_text, written_length   what writing a text that fits does to a page
+--     turn_keeps_room, turn_keeps_answers   what the loop's invariant says is kept by a turn
+--     answers_none      at the end of the script nothing is left to answer
+--     no_printed        `no 6`, printed first, is all that is printed
+--     long_script, bad_first, good_first   the three ways of a script
 -- Assumes nothing.
 use Prim.Native.Nat.{ℕ, suc, ◌+◌, ◌-◌, ◌*◌, ◌<◌, ◌≤◌}
 use mathlib.Core.Path.{◌≡◌, refl, sym, ap, ◌∙◌}
-use mathlib.Core.Bool.{Bool, true, false, ◌&&◌, cond, false≢true}
-use mathlib.Core.List.{List, [], ◌∷◌, ◌++◌, append_assoc}
+use mathlib.Core.Bool.{Bool, true, false, cond, false≢true}
+use mathlib.Core.List.{List, [], ◌∷◌, ◌++◌, append-nil, append_assoc}
 use native.Mathlib.Omega.{arith}
 use native.Mathlib.Numerals.{add-one}
-use lib.ListN.{length, take, drop, length-drop, drop_of_length-le}
-use lib.Seq.{drop-drop, length-take-le}
-use lib.Dec.{leb}
-use borrow.Author.Tests.{le-leb, lt-leb, leb-true}
+use lib.ListN.{length, take, drop, set, length-set, length-drop, drop_of_length-le}
+use lib.Seq.{take-suc-set, drop-drop, length-take-le}
+use borrow.Author.Tests.{lt-ltb, le-leb, lt-leb}
 use Rattle.bits.specs.Bytes.{is_same_of}
-use Rattle.bits.proofs.TestLaws.{and_left}
 use Rattle.reader.specs.Reader.{lines_of, line_length_of, command_of}
 use Rattle.declines.specs.Runs.{Session, fresh_session}
 use Rattle.script.specs.Script.{script_limit, capacity, malformed, line_answer, session_after}
-use Rattle.script.specs.Script.{answers_from, starts_with_header, answers_after_header, is_run_of, answers_of}
-use Rattle.script.specs.AnswerLines.{session_at, session_of}
+use Rattle.script.specs.Script.{answers_from, is_header_of, answers_after_header, answers_of}
 use Rattle.printer.specs.Printer.{no_text}
-use Rattle.text.specs.Text.{is_header_of}
-use Rattle.text.specs.Page.{Page, page, write}
-use Rattle.text.proofs.PageLaws.{written_at, written_text}
+use Rattle.text.specs.Page.{Page, page, write, write_byte}
 use Rattle.reader.specs.declared.Command.{Command}
 use Rattle.reader.proofs.ReaderLaws.{lines_first, length_at_most}
 use Rattle.script.proofs.FitLaws.{answer_fits}
+
+-- ---- a text that fits
+
+byte_fits : (b : ℕ) (p : Page) → p.at < length p.bytes → write_byte b p ≡ page (set p.bytes p.at b) (p.at + 1)
+unfolding write_byte
+byte_fits b p h = rw (lt-ltb p.at (length p.bytes) h)
+
+pub written_at : (bs : List ℕ) (l : List ℕ) (at : ℕ) → at + length bs ≤ length l →
+    (write bs (page l at)).at ≡ at + length bs
+unfolding write
+written_at [] l at h = omega arith
+written_at (b ∷ bs) l at h =
+    let e : at + 1 + length bs ≡ at + suc (length bs) = omega arith in
+    ap (λ (p : Page). (write bs p).at) (byte_fits b (page l at) (omega arith))
+    ∙ written_at bs (set l at b) (at + 1) (omega (arith, length-set l at b))
+    ∙ e
+
+pub written_length : (bs : List ℕ) (l : List ℕ) (at : ℕ) → at + length bs ≤ length l →
+    length (write bs (page l at)).bytes ≡ length l
+unfolding write
+written_length [] l at h = refl
+written_length (b ∷ bs) l at h =
+    ap (λ (p : Page). length (write bs p).bytes) (byte_fits b (page l at) (omega arith))
+    ∙ written_length bs (set l at b) (at + 1) (omega (arith, length-set l at b))
+    ∙ length-set l at b
+
+pub written_text : (bs : List ℕ) (l : List ℕ) (at : ℕ) → at + length bs ≤ length l →
+    take (at + length bs) (write bs (page l at)).bytes ≡ take at l ++ bs
+unfolding write
+written_text [] l at h =
+    let e : at + 0 ≡ at = omega arith in
+    rw e (sym (append-nil (take at l)))
+written_text (b ∷ bs) l at h =
+    let e : at + suc (length bs) ≡ at + 1 + length bs = omega arith in
+    let inside : at < length l = omega arith in
+    ap (λ (n : ℕ). take n (write bs (write_byte b (page l at))).bytes) e
+    ∙ ap (λ (p : Page). take (at + 1 + length bs) (write bs p).bytes) (byte_fits b (page l at) (omega arith))
+    ∙ written_text bs (set l at b) (at + 1) (omega (arith, length-set l at b))
+    ∙ rw (add-one at, take-suc-set l at b inside, append_assoc) refl
 
 -- ---- a turn of the loop
 
@@ -43,10 +77,6 @@ pub answers_none : (script : List ℕ) (at : ℕ) (z : Session) → length scrip
     [] ≡ answers_from (lines_of (drop at script)) z
 unfolding lines_of answers_from
 answers_none script at z h = rw (drop_of_length-le script h)
-
-pub session_none : (script : List ℕ) (at : ℕ) (z : Session) → length script ≤ at → z ≡ session_at (lines_of (drop at script)) z
-unfolding lines_of
-session_none script at z h = rw (drop_of_length-le script h)
 
 -- the line that starts at a place: its length, and what it asks
 abbrev pub len_at : List ℕ → ℕ → ℕ
@@ -101,81 +131,48 @@ module _ (script out out' : List ℕ) (at printed printed' : ℕ) (z z' : Sessio
         ∙ ap (λ (ls : List (List ℕ)). answers_from ls z) (sym (lines_first (drop at script) some)))
         ∙ h
 
-    pub turn_keeps_session : session_at (lines_of (drop at script)) z ≡ session_at (lines_of (drop (at + (len_at script at + 1)) script)) z'
-    turn_keeps_session =
-        let e : at + (len_at script at + 1) ≡ at + suc (len_at script at) = omega arith in
-        let after : drop (at + (len_at script at + 1)) script ≡ drop (suc (len_at script at)) (drop at script) =
-        ap (λ (n : ℕ). drop n script) e ∙ sym (drop-drop (suc (len_at script at)) at script) in
-        let some : 0 < length (drop at script) = rw (length-drop at script) (omega arith) in
-        ap (λ (ls : List (List ℕ)). session_at ls z) (lines_first (drop at script) some)
-        ∙ sym (λ j. session_at (lines_of (after j)) (next j))
-
 -- ---- a whole script
 
--- what `no` and a number leaves on an empty page
-pub no_printed : (number : ℕ) (l l' : List ℕ) (r : ℕ) → length l ≡ capacity → page l' r ≡ write (no_text number) (page l 0) →
-    (take r l' ≡ no_text number) × (r ≤ capacity)
-no_printed number l l' r full told =
-    let fits : 0 + length (no_text number) ≤ length l = omega arith in
-    let place : r ≡ 5 = ap (λ (p : Page). p.at) told ∙ written_at (no_text number) l 0 fits in (
-      (λ j. take (place j) (told j).bytes) ∙ written_text (no_text number) l 0 fits,
+-- what `no 6` leaves on an empty page
+pub no_printed : (l l' : List ℕ) (r : ℕ) → length l ≡ capacity → page l' r ≡ write (no_text malformed) (page l 0) →
+    (take r l' ≡ no_text malformed) × (r ≤ capacity)
+no_printed l l' r full told =
+    let fits : 0 + length (no_text malformed) ≤ length l = omega arith in
+    let place : r ≡ 5 = ap (λ (p : Page). p.at) told ∙ written_at (no_text malformed) l 0 fits in (
+      (λ j. take (place j) (told j).bytes) ∙ written_text (no_text malformed) l 0 fits,
       omega arith,
     )
 
-pub long_script : (script : List ℕ) → script_limit < length script → is_run_of script ≡ false
+pub long_script : (script : List ℕ) → script_limit < length script → answers_of script ≡ no_text malformed
+unfolding answers_of
 long_script script h = rw (lt-leb (length script) script_limit h)
 
 -- the first line decides
-pub short_script : (script : List ℕ) → length script ≤ script_limit
-    → is_run_of script ≡ is_header_of (take (line_length_of script) script)
-unfolding lines_of line_length_of is_same_of
-short_script [] h = refl
-short_script (b ∷ bs) h =
-    rw (le-leb (length (b ∷ bs)) script_limit h) (ap starts_with_header (lines_first (b ∷ bs) (omega arith)))
+after_first : (l : List ℕ) (ls : List (List ℕ)) (t : Bool) → is_header_of l ≡ t →
+    answers_after_header (l ∷ ls) ≡ cond t (answers_from ls fresh_session) (no_text malformed)
+unfolding answers_after_header
+after_first l ls t h = rw h
 
--- a script that is run: how long it is, and its lines
-pub record Runs (script : List ℕ) : Type 0 where
-  pub short : leb (length script) script_limit ≡ true
-  pub header : is_header_of (take (line_length_of script) script) ≡ true
-  pub lines : lines_of script ≡ take (line_length_of script) script ∷ lines_of (drop (line_length_of script + 1) script)
+short_script : (script : List ℕ) → length script ≤ script_limit → answers_of script ≡ answers_after_header (lines_of script)
+unfolding answers_of
+short_script script h = rw (le-leb (length script) script_limit h)
 
-pub run_has_lines : (script : List ℕ) → is_run_of script ≡ true → Runs script
-unfolding lines_of
-run_has_lines [] runs = absurd (false≢true runs)
-run_has_lines (b ∷ bs) runs =
-    let script = b ∷ bs in
-    let short = and_left (leb (length script) script_limit) (starts_with_header (lines_of script)) runs in
-    let first = sym (short_script script (leb-true (length script) script_limit short)) ∙ runs in
-    let after = ap (λ (n : ℕ). take (line_length_of script) script ∷ lines_of (drop n script)) (sym (add-one (line_length_of script))) in
-    record { short = short; header = first; lines = lines_first script (omega arith) ∙ after }
+pub bad_first : (script : List ℕ) → length script ≤ script_limit →
+    is_header_of (take (line_length_of script) script) ≡ false → answers_of script ≡ no_text malformed
+unfolding answers_after_header lines_of
+bad_first [] h k = short_script [] h
+bad_first (b ∷ bs) h k =
+    short_script (b ∷ bs) h
+    ∙ ap answers_after_header (lines_first (b ∷ bs) (omega arith))
+    ∙ after_first (take (line_length_of (b ∷ bs)) (b ∷ bs)) (lines_of (drop (suc (line_length_of (b ∷ bs))) (b ∷ bs))) false k
 
-pub run_prints : (script : List ℕ) → is_run_of script ≡ true
-    → answers_of script ≡ answers_from (lines_of (drop (line_length_of script + 1) script)) fresh_session
-unfolding answers_of answers_after_header
-run_prints script runs =
-    let r = run_has_lines script runs in
-    rw (r.short, r.lines, r.header)
-
-pub run_leaves : (script : List ℕ) → is_run_of script ≡ true
-    → session_of script ≡ session_at (lines_of (drop (line_length_of script + 1) script)) fresh_session
-unfolding session_of
-run_leaves script runs =
-    let r = run_has_lines script runs in
-    rw (r.short, r.lines, r.header)
-
-pub not_run_prints : (script : List ℕ) → is_run_of script ≡ false → answers_of script ≡ no_text malformed
-unfolding answers_of answers_after_header
-not_run_prints script stays = go (leb (length script) script_limit) (lines_of script) stays
-  where
-    go : (short : Bool) (ls : List (List ℕ)) → (short && starts_with_header ls) ≡ false
-        → cond short (answers_after_header ls) (no_text malformed) ≡ no_text malformed
-    go false ls e = refl
-    go true [] e = refl
-    go true (l ∷ ls) e = rw e
-
--- where the lines behind the first start
-pub run_starts : (script : List ℕ) (first : ℕ) → is_run_of script ≡ true → first ≤ length script
-    → (length script ≤ script_limit) × (first + 1 ≤ script_limit + 1)
-run_starts script first runs within =
-    let short = leb-true (length script) script_limit (run_has_lines script runs).short in
-    (short, omega (arith, short))
+pub good_first : (script : List ℕ) → length script ≤ script_limit →
+    is_header_of (take (line_length_of script) script) ≡ true →
+    answers_of script ≡ answers_from (lines_of (drop (line_length_of script + 1) script)) fresh_session
+unfolding is_same_of line_length_of
+good_first [] h k = absurd (false≢true k)
+good_first (b ∷ bs) h k =
+    short_script (b ∷ bs) h
+    ∙ ap answers_after_header (lines_first (b ∷ bs) (omega arith))
+    ∙ after_first (take (line_length_of (b ∷ bs)) (b ∷ bs)) (lines_of (drop (suc (line_length_of (b ∷ bs))) (b ∷ bs))) true k
+    ∙ ap (λ (n : ℕ). answers_from (lines_of (drop n (b ∷ bs))) fresh_session) (sym (add-one (line_length_of (b ∷ bs))))

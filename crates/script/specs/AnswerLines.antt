@@ -1,31 +1,22 @@
 -- What is said of a script's answers as text, for the laws about them.
 --     document 01    "Console program"
---     session_at      the session after some lines; sessionOf: after a whole script
+--     session_at      the session after some lines
 --     OneLine        bytes that document 01 allows in an answer, then one newline
 --     newlines       how many newlines there are
 -- Own rules of 01 used here: none. Decisions: none. Left out: nothing.
 -- Assumes nothing.
-use Rattle.std.specs.Prelude.{ℕ, ◌+◌, ◌≡◌, Bool, true, false, ◌||◌, List, [], ◌∷◌, ◌++◌, eqb, leb, length}
+use Rattle.std.specs.Prelude.{ℕ, ◌+◌, ◌≡◌, Bool, true, false, ◌||◌, List, [], ◌∷◌, ◌++◌, eqb}
 use Rattle.bits.specs.Notation.{if◌then◌else◌}
 use Rattle.bits.specs.Bytes.{all_of}
-use Rattle.text.specs.Text.{newline, is_decimal, is_capital, is_header_of}
-use Rattle.reader.specs.Reader.{lines_of, command_of}
-use Rattle.declines.specs.Runs.{Session, fresh_session}
-use Rattle.script.specs.Script.{script_limit, session_after}
+use Rattle.text.specs.Text.{newline, is_decimal, is_capital}
+use Rattle.reader.specs.Reader.{command_of}
+use Rattle.declines.specs.Runs.{Session}
+use Rattle.script.specs.Script.{session_after}
 
 -- the session after these lines
 abbrev pub session_at : List (List ℕ) → Session → Session
 session_at [] z = z
 session_at (l ∷ ls) z = session_at ls (session_after (command_of l) z)
-
--- [Console.2] [Console.6] a wrong first line, or none: nothing is run
-abbrev pub session_after_header : List (List ℕ) → Session
-session_after_header [] = fresh_session
-session_after_header (l ∷ ls) = if is_header_of l then session_at ls fresh_session else fresh_session
-
--- [Console.1] [Console.6] what a script leaves of a fresh record and a memory of zeros
-unfoldable pub session_of : List ℕ → Session
-session_of script = if leb (length script) script_limit then session_after_header (lines_of script) else fresh_session
 
 -- a space, `-`, and the letters of `ok`, `no`, `c`, `e` and `g`
 abbrev pub letters : List ℕ

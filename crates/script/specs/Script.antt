@@ -1,14 +1,15 @@
 -- A console session: what each line prints and does, and what a whole script prints.
 --     document 01     "Console program"
+--     header          a script's first line
 --     line_answer      what a line prints
 --     session_after    the session after it
 --     answers_from     what lines print, one after the other
---     answers_of       all that a script prints; isRunOf: whether it is run
+--     answers_of       all that a script prints
 -- Own rules of 01 used here: none. Decisions: K2, K3, K5. Left out: standard input and output, in console.
 -- Assumes nothing.
-use Rattle.std.specs.Prelude.{ℕ, Bool, false, ◌&&◌, List, [], ◌∷◌, ◌++◌, leb, length}
+use Rattle.std.specs.Prelude.{ℕ, Bool, List, [], ◌∷◌, ◌++◌, leb, length}
 use Rattle.bits.specs.Notation.{if◌then◌else◌}
-use Rattle.text.specs.Text.{is_header_of}
+use Rattle.bits.specs.Bytes.{is_same_of}
 use Rattle.trigger.specs.Lines.{inputs_of}
 use Rattle.declines.specs.Runs.{plain_write, plain_read, write_memory, read_memory, tick}
 use Rattle.declines.specs.Runs.{Session, fresh_session, reply_to, after}
@@ -31,6 +32,10 @@ capacity = 327680
 -- [Console.5] a line of other form, a bad first line, a longer script
 abbrev pub malformed : ℕ
 malformed = 6
+
+-- [Console.2] `supervisor`, tab, `1`
+abbrev pub header : List ℕ
+header = 115 ∷ 117 ∷ 112 ∷ 101 ∷ 114 ∷ 118 ∷ 105 ∷ 115 ∷ 111 ∷ 114 ∷ 9 ∷ 49 ∷ []
 
 -- ---- one line
 
@@ -58,19 +63,14 @@ unfoldable pub answers_from : List (List ℕ) → Session → List ℕ
 answers_from [] z = []
 answers_from (l ∷ ls) z = line_answer (command_of l) z ++ answers_from ls (session_after (command_of l) z)
 
--- [Console.2] no line at all has none
-abbrev pub starts_with_header : List (List ℕ) → Bool
-starts_with_header [] = false
-starts_with_header (l ∷ ls) = is_header_of l
+-- [Console.2]
+abbrev pub is_header_of : List ℕ → Bool
+is_header_of l = is_same_of l header
 
 -- [Console.2] [Console.6] the lines after a right first line; no line at all has none
 unfoldable pub answers_after_header : List (List ℕ) → List ℕ
 answers_after_header [] = no_text malformed
 answers_after_header (l ∷ ls) = if is_header_of l then answers_from ls fresh_session else no_text malformed
-
--- [Console.1] [Console.2] [Console.6] whether a script is run
-abbrev pub is_run_of : List ℕ → Bool
-is_run_of script = leb (length script) script_limit && starts_with_header (lines_of script)
 
 -- [Console.1] [Console.6]
 unfoldable pub answers_of : List ℕ → List ℕ

@@ -1,3 +1,2 @@
 -- The laws; the proofs of functions stand in folders of their own. Assumes nothing.
 pub mod PageLaws
-pub mod HeaderLaws

@@ -4,12 +4,10 @@
 --     hex_digit        the byte of one hexadecimal digit, a capital above 9
 --     hex n v         n such digits of v, the highest first
 --     is_digit_of       whether a byte is such a digit; digitOf: its value
---     header          a script's first line; isHeaderOf: whether a line is it
 -- Own rules of 01 used here: none. Decisions: none. Left out: nothing.
 -- Assumes nothing.
 use Rattle.std.specs.Prelude.{ℕ, zero, suc, ◌+◌, ◌-◌, ◌/◌, ◌%◌, ◌^◌, Bool, ◌&&◌, ◌||◌, List, [], ◌∷◌, ltb, leb}
 use Rattle.bits.specs.Notation.{if◌then◌else◌}
-use Rattle.bits.specs.Bytes.{is_same_of}
 
 -- ---- bytes that part lines and fields
 
@@ -46,13 +44,3 @@ is_digit_of b = is_decimal b || is_capital b
 -- the value of a digit; 0 for any other byte, which no form lets through
 unfoldable pub digit_of : (b : ℕ) → ℕ
 digit_of b = if is_decimal b then b - 48 else if is_capital b then b - 55 else 0
-
--- ---- a script's first line
-
--- [Console.2] `supervisor`, tab, `1`
-abbrev pub header : List ℕ
-header = 115 ∷ 117 ∷ 112 ∷ 101 ∷ 114 ∷ 118 ∷ 105 ∷ 115 ∷ 111 ∷ 114 ∷ 9 ∷ 49 ∷ []
-
--- [Console.2]
-abbrev pub is_header_of : List ℕ → Bool
-is_header_of l = is_same_of l header

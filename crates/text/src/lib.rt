@@ -1,9 +1,8 @@
-// The bytes that a script and its answers are made of: hexadecimal digits, a script's first line, and the buffer that answers
-// and setups are printed in (document 01, "Console program"; specs/Text.antt). Every function that prints has one contract: the page after it is the page before it
+// The bytes that a script and its answers are made of: hexadecimal digits, and the buffer that answers are printed in
+// (document 01, "Console program"; specs/Text.antt). Every function that prints has one contract: the page after it is the page before it
 // with its text written on (specs/Page.antt). A full page takes nothing more, so none asks how much room is left.
 ghost use Rattle.std.specs.Prelude.{◌≡◌, ◌/◌, ◌%◌, ◌^◌, ◌<◌, ◌≤◌};
-ghost use Rattle.bits.specs.Bytes.{is_same_of};
-ghost use Rattle.text.specs.Text.{is_digit_of, digit_of, hex_digit, hex, header, is_header_of};
+ghost use Rattle.text.specs.Text.{is_digit_of, digit_of, hex_digit, hex};
 ghost use Rattle.text.specs.Page.{page, write, write_byte};
 
 // ---- digits read
@@ -75,52 +74,4 @@ pub fn put_hex(out: &mut [u8], at: usize, digits: u32, v: u32) -> usize
         place = put(out, place, digit_byte(v, left));
     }
     place
-}
-
-// Bytes as they are, one after the other.
-fn put_all(out: &mut [u8], at: usize, bytes: &[u8]) -> usize
-    ensures { page out.new result ≡ write bytes.now (page out.old at) }
-{
-    let mut i = 0;
-    let mut place = at;
-    while i < bytes.len() {
-        place = put(out, place, bytes[i]);
-        i += 1;
-    }
-    place
-}
-
-// ---- a script's first line
-
-// [Console.2] [Setup.2] what the reader compares and the setup writer writes
-const HEADER: [u8; 12] = *b"supervisor\t1";
-
-fn is_same(a: &[u8], b: &[u8]) -> bool
-    ensures { result ≡ is_same_of a.now b.now }
-{
-    if a.len() != b.len() {
-        return false;
-    }
-    let mut i = 0;
-    while i < a.len() {
-        if a[i] != b[i] {
-            return false;
-        }
-        i += 1;
-    }
-    true
-}
-
-// [Console.2]
-pub fn is_header(line: &[u8]) -> bool
-    ensures { result ≡ is_header_of line.now }
-{
-    is_same(line, &HEADER)
-}
-
-// [Setup.2]
-pub fn put_header(out: &mut [u8], at: usize) -> usize
-    ensures { page out.new result ≡ write header (page out.old at) }
-{
-    put_all(out, at, &HEADER)
 }

@@ -10,7 +10,6 @@ mod memory;
 mod names;
 mod pulses;
 mod registers;
-mod setup;
 mod spoiled;
 mod state;
 mod table;

@@ -19,8 +19,6 @@ pub mod decline {
     pub const RUN: u8 = 7;
     /// A word for the generator without level 1 OK or without exactly one class. [Table.8b]
     pub const WORD: u8 = 8;
-    /// A buffer that is shorter than the setup's text. [Setup.7a]
-    pub const BUFFER: u8 = 9;
 }
 
 /// Bits of the CSR. [CSR.1] [CSR.2] [CSRWrite.1] [Test.1]
@@ -48,8 +46,6 @@ pub mod csr {
 
     /// Bits 0–13, which a write sets and clears.
     pub const CONTROLS: u32 = 0x0000_3FFF;
-    /// Bits 4–11, which a setup holds: neither GO and the requests nor the modes. [Setup.3a]
-    pub const SETTINGS: u32 = 0x0000_0FF0;
     /// The two modes of service. [Test.1]
     pub const MODES: u32 = HOLD | TEST_MODE;
     /// Bits 16–20, the status bits.

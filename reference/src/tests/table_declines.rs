@@ -32,7 +32,7 @@ fn all_bad() -> [u16; INPUTS] {
 }
 
 /// Inactive, with something in every field but the branches, in which it would be active.
-pub(super) fn standing() -> Supervisor {
+fn standing() -> Supervisor {
     let free = csr::CONTROLS & !(csr::GO | csr::PAUSE_AND_SYNC | csr::FORCE_SYNC);
     Supervisor {
         factors: [1, 2, 3, 4, 5, 6, 7, 8],

@@ -83,8 +83,8 @@ returns-5 c =
       ← c.before.before.before.before.before.before.before.before.before.before.is-spoiled.ensures,
       c.before.before.before.before.before.before.before.before.before.if1.false,
     ) in
-    let length_is = c.before.before.before.before.before.before.before.before.if2.false in
-    let whole = ap (λ (n : ℕ). table_of n a.words) length_is in
+    let length-is = c.before.before.before.before.before.before.before.before.if2.false in
+    let whole = ap (λ (n : ℕ). table_of n a.words) length-is in
     (end, c.before.before.fill.ensures ∙ whole ∙ done_fills _ _ _ _ end)
 
 pub fill-memory-spec : {M : Type 1} → statement M

@@ -7,10 +7,10 @@ use Rattle.reader.proofs.first_line.Statement.{statement}
 use Rattle.reader.proofs.first_line.Tie as tie
 
 slice-aggregate-command-of : tie.Need-slice-aggregate-command-of
-slice-aggregate-command-of c = sym (length-take-le _ _ c.before.line_length.ensures.1)
+slice-aggregate-command-of c = sym (length-take-le _ _ c.before.line-length.ensures.1)
 
 returns : tie.Need-returns
-returns c = rw (c.command-of.ensures, c.before.before.line_length.ensures.0)
+returns c = rw (c.command-of.ensures, c.before.before.line-length.ensures.0)
 
 pub first-line-spec : {M : Type 1} → statement M
 first-line-spec =

@@ -1,12 +1,11 @@
-//! Time and instructions of a tick, of a fill of the memory and of a save of the setup: the proved library's public
-//! calls beside the model's, in one program.
+//! Time and instructions of a tick and of a fill of the memory: the proved library's public calls beside the model's, in
+//! one program.
 //!
 //! Both run the same loop over the same table of inputs and fold every field of every answer into a sum; the two sums
 //! must be equal. Settings come from the table, so that the compiler knows none of them. Two memories that were filled
-//! must be equal too, and two texts that were saved.
+//! must be equal too.
 
 mod fills;
-mod saves;
 mod sides;
 mod traffic;
 
@@ -93,21 +92,14 @@ fn times(runs: usize) -> Option<()> {
     line("all moving", runs, once, &moving_memory(), &moving())?;
     println!("microseconds of a fill of the memory, best of {runs} runs of {} fills by turns", fills::FILLS);
     print_times("fill", fills::best(runs)?);
-    println!("microseconds of a save of the setup, best of {runs} runs of {} saves by turns", saves::SAVES);
-    for (name, _) in saves::SETUPS {
-        print_times(name, saves::best(runs, &saves::setup(name)?)?);
-    }
     println!("bytes of a record: proved {}, model {}", size_of::<layout::Supervisor>(), size_of::<Supervisor>());
     Some(())
 }
 
-/// What `./bench` runs under callgrind: some ticks, fills or saves of one side.
+/// What `./bench` runs under callgrind: some ticks or fills of one side.
 fn count(side: &str, traffic: &str, ticks: u64) -> Option<()> {
     if traffic == "fill" {
         return count_fills(side, ticks as usize);
-    }
-    if let Some(setup) = traffic.strip_prefix("save-") {
-        return count_saves(side, setup, ticks as usize);
     }
     let (_, run) = SIDES.iter().find(|(name, _)| *name == side)?;
     let (memory, table) = match KINDS.into_iter().find(|kind| kind.name == traffic) {
@@ -126,14 +118,6 @@ fn count_fills(side: &str, count: usize) -> Option<()> {
     let (words, mut memory) = (fills::words(), fills::memory());
     let declined = run(&mut memory, black_box(words.get(..count.checked_mul(machine::INPUTS)?)?));
     println!("{side} fill {count} {declined} {:04X}", memory[MEMORY_WORDS - 1]);
-    Some(())
-}
-
-fn count_saves(side: &str, name: &str, count: usize) -> Option<()> {
-    let (_, run) = saves::SIDES.iter().find(|(name, _)| *name == side)?;
-    let (setup, mut buffer) = (saves::setup(name)?, saves::buffer());
-    let sum = run(black_box(&setup), &mut buffer, black_box(count));
-    println!("{side} save-{name} {count} {sum}");
     Some(())
 }
 

@@ -1,5 +1,5 @@
 //! What the compared calls met: every state, decline, outcome, assignment and clause of the spoiled rule, the blind
-//! time, STATE, byte-wise access, test mode and the held clock, pairs of writes, the generator, and saved setups.
+//! time, STATE, byte-wise access, test mode and the held clock, pairs of writes, and the generator.
 
 use crate::blind_counts::{self, BlindCounts};
 use crate::byte_counts::ByteCounts;
@@ -8,7 +8,6 @@ use crate::held_counts::HeldCounts;
 use crate::numbers::*;
 use crate::order_counts::OrderCounts;
 use crate::owed_counts::OwedCounts;
-use crate::setup_counts::SetupCounts;
 use crate::state_counts::StateCounts;
 use crate::table_counts::TableCounts;
 use crate::test_counts::{in_force, TestCounts};
@@ -68,7 +67,6 @@ pub struct Counts {
     holds: HeldCounts,
     pub orders: OrderCounts,
     pub table: TableCounts,
-    pub setups: SetupCounts,
     clauses: [[u64; 2]; CLAUSES.len()],
 }
 
@@ -97,7 +95,6 @@ impl Counts {
             holds: HeldCounts::new(),
             orders: OrderCounts::new(),
             table: TableCounts::new(),
-            setups: SetupCounts::new(),
             clauses: [[0; 2]; CLAUSES.len()],
         }
     }
@@ -283,7 +280,6 @@ impl Counts {
             ("Test mode and the held clock", [self.tests.rows(), self.holds.rows()].concat()),
             ("Two writes in both orders", self.orders.rows()),
             ("The generator", self.table.rows()),
-            ("Saves of the setup", self.setups.rows()),
         ] {
             println!("{title}");
             rows.into_iter().for_each(|(name, count)| row(name, count));

@@ -49,10 +49,6 @@ impl Difference {
                     println!("  on copies of the record, each alone and both in either order:");
                     writes.iter().for_each(|&call| print_call(call, &self.memories[*memory]));
                 }
-                Step::Save(save) => {
-                    let words = self.memories[save.memory].len();
-                    println!("  on copies of record and memory: save, {save:?} ({words} words)");
-                }
             }
         }
     }

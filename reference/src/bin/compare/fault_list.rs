@@ -29,12 +29,10 @@ include!("speed_faults.rs");
 include!("order_faults.rs");
 include!("table_faults.rs");
 include!("place_faults.rs");
-include!("setup_faults.rs");
-include!("text_faults.rs");
 include!("account_faults.rs");
 
 /// Those of the machine, in order.
-const MACHINE_FAULTS: [&[Fault]; 17] = [
+const MACHINE_FAULTS: [&[Fault]; 15] = [
     CALL_FAULTS,
     TICK_FAULTS,
     REQUEST_FAULTS,
@@ -50,8 +48,6 @@ const MACHINE_FAULTS: [&[Fault]; 17] = [
     ORDER_FAULTS,
     TABLE_FAULTS,
     PLACE_FAULTS,
-    SETUP_FAULTS,
-    TEXT_FAULTS,
 ];
 
 /// All of them with their numbers, from 1: the machine's, then the account's.

@@ -7,9 +7,7 @@ use crate::numbers::*;
 use crate::order_calls;
 use crate::profile::Profile;
 use crate::random::Random;
-use crate::saves::Save;
 use crate::setup;
-use crate::setup_calls;
 use crate::table_calls;
 use crate::test_calls;
 use crate::ticks::tick;
@@ -19,14 +17,13 @@ use reference::machine::{csr, Supervisor, MEMORY_WORDS};
 /// STATE is read often: it is where the record's oddities and the latest tick show.
 const READ_STATE: Call = [READ_REGISTER, Supervisor::STATE as u64, 0, 0];
 
-/// A step of a list: a call with one of the lent memories, a record put in the place of the one that stands, or, after
-/// which the list goes on from where it stood before, two writes in both orders, or a save of the setup.
+/// A step of a list: a call with one of the lent memories, a record put in the place of the one that stands, or two
+/// writes in both orders, after which the list goes on from where it stood before them.
 #[derive(Clone)]
 pub enum Step {
     Call { memory: usize, call: Call },
     Put(Box<Record>),
     Both { memory: usize, writes: [Call; 2] },
-    Save(Save),
 }
 
 pub struct Maker {
@@ -35,8 +32,6 @@ pub struct Maker {
     pairs: Random,
     /// For fills alone, so that no step before the first of them depends on them.
     fills: Random,
-    /// For saves alone, so that no other step depends on them.
-    saves: Random,
     profile: Profile,
     /// Whether the list has fills.
     has_fills: bool,
@@ -55,9 +50,7 @@ impl Maker {
         let pairs = Random::new(!seed);
         let mut fills = Random::new(seed ^ table_calls::SEED);
         let has_fills = fills.once_in(3);
-        let saves = Random::new(seed ^ setup_calls::SEED);
-        let (queued, changed) = (Vec::new(), None);
-        let mut maker = Maker { random, pairs, fills, saves, profile, has_fills, queued, changed, length };
+        let mut maker = Maker { random, pairs, fills, profile, has_fills, queued: Vec::new(), changed: None, length };
         maker.set_up();
         maker
     }
@@ -129,10 +122,11 @@ impl Maker {
     /// In some lists now and then a fill of the memory, more often where it is taken, with calls behind it that show what
     /// was filled. [Table.4]
     pub fn fill(&mut self, record: &Record) -> Option<Step> {
+        let odd = record[BLIND] != 0 || record[TEST] != 0 || record[SYNC_COUNT] != 0;
         let of = match (&self.changed, is_active(record)) {
             (Some(_), _) => 40,
             (None, true) => 250,
-            (None, false) if is_odd(record) => 6,
+            (None, false) if odd => 6,
             (None, false) => 30,
         };
         if !self.has_fills || !self.fills.once_in(of) {
@@ -145,21 +139,6 @@ impl Maker {
             self.queued.extend(table_calls::behind(&mut self.fills, call).into_iter().rev());
         }
         Some(Step::Call { memory, call })
-    }
-
-    /// Now and then a save of the setup, more often where it is taken. [Setup.1]
-    pub fn save(&mut self, record: &Record) -> Option<Step> {
-        let of = match (&self.changed, is_active(record)) {
-            (Some(_), _) => 80,
-            (None, true) => 3_000,
-            (None, false) if is_odd(record) => 12,
-            (None, false) => 60,
-        };
-        if !self.saves.once_in(of) {
-            return None;
-        }
-        let any_memory = self.saves.once_in(6);
-        Some(Step::Save(setup_calls::save(&mut self.saves, record, any_memory)))
     }
 
     /// A call on a record that was changed, or the one from before the change put back.
@@ -223,9 +202,4 @@ impl Maker {
             _ => self.tick(record),
         }
     }
-}
-
-/// Something stands that is seldom met while inactive.
-fn is_odd(record: &Record) -> bool {
-    record[BLIND] != 0 || record[TEST] != 0 || record[SYNC_COUNT] != 0
 }

@@ -29,13 +29,8 @@ mod owed_counts;
 mod pair;
 mod profile;
 mod random;
-mod saved_counts;
-mod saves;
 mod scripts;
 mod setup;
-mod setup_calls;
-mod setup_counts;
-mod setup_scripts;
 mod state_counts;
 mod table_calls;
 mod table_counts;
@@ -80,16 +75,12 @@ impl<M: Machine> Run<M> {
                 counts.calls += orders::CALLS;
                 counts.orders.add(&before, *writes, &orders);
             }
-            (Done::Saved(saved), Step::Save(_)) => {
-                counts.calls += 1;
-                counts.setups.add(&before, &saved);
-            }
             _ => counts.forget(),
         }
         Ok(())
     }
 
-    /// The whole list, with two writes in both orders, a fill of the memory or a save of the setup behind some steps.
+    /// The whole list, with two writes in both orders, or a fill of the memory, behind some steps.
     fn all(&mut self, maker: &mut Maker, counts: &mut Counts) -> Result<(), String> {
         counts.forget();
         counts.table.forget();
@@ -102,9 +93,6 @@ impl<M: Machine> Run<M> {
             if let Some(fill) = maker.fill(&self.pair.proved) {
                 self.step(fill, counts)?;
             }
-            if let Some(save) = maker.save(&self.pair.proved) {
-                self.step(save, counts)?;
-            }
         }
         counts.lists += 1;
         Ok(())
@@ -112,7 +100,7 @@ impl<M: Machine> Run<M> {
 
     /// Once more in one piece, so that no record passes through numbers between the calls.
     fn again(&self, memories: &[Vec<u16>], counts: &mut Counts) -> Result<(), String> {
-        let kept = self.steps.iter().filter(|step| !matches!(step, Step::Both { .. } | Step::Save(_)));
+        let kept = self.steps.iter().filter(|step| !matches!(step, Step::Both { .. }));
         let one_piece = |step: &Step| match step {
             Step::Call { memory: 0, call } => Some(*call),
             _ => None,
@@ -242,10 +230,9 @@ fn numbers(words: &[String], from: usize, count: u64) -> Result<(u64, u64), Stri
 fn run(words: &[String]) -> Result<ExitCode, String> {
     match words.first().map(String::as_str) {
         Some("--faults") => numbers(words, 1, DEFAULT_CALLS).map(|(seed, calls)| find_faults(seed, calls)),
-        Some(kind @ ("--scripts" | "--setups")) => {
-            let program = words.get(1).ok_or(format!("{kind}: a program was expected"))?;
-            let run = if kind == "--scripts" { scripts::compare } else { setup_scripts::compare };
-            numbers(words, 2, DEFAULT_SCRIPTS).map(|(seed, count)| run(program, seed, count))
+        Some("--scripts") => {
+            let program = words.get(1).ok_or("--scripts: a program was expected")?;
+            numbers(words, 2, DEFAULT_SCRIPTS).map(|(seed, count)| scripts::compare(program, seed, count))
         }
         _ => numbers(words, 0, DEFAULT_CALLS).map(|(seed, calls)| compare(seed, calls)),
     }

@@ -156,16 +156,6 @@ macro_rules! model {
                 *record = Self::numbers(&s);
                 reply
             }
-
-            fn save(record: &mut Record, memory: &[u16], buffer: &mut [u8]) -> u64 {
-                let mut s = Self::record(record);
-                let answer = s.save_setup(memory, buffer);
-                *record = Self::numbers(&s);
-                match answer {
-                    Ok(length) => length as u64,
-                    Err(decline) => u64::from(decline) << 32,
-                }
-            }
         }
     };
 }
@@ -177,11 +167,6 @@ impl Model {
     /// The record for the account's check.
     pub fn of(n: &Record) -> machine::Supervisor {
         Self::record(n)
-    }
-
-    /// The record that the model's console leaves.
-    pub fn numbers_of(s: &machine::Supervisor) -> Record {
-        Self::numbers(s)
     }
 }
 

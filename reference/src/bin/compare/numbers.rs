@@ -158,9 +158,6 @@ pub trait Machine {
     type Account: Account;
 
     fn call(record: &mut Record, memory: &mut [u16], call: Call) -> Reply;
-
-    /// Saves the setup; gives the text's length, or the decline from bit 32 on.
-    fn save(record: &mut Record, memory: &[u16], buffer: &mut [u8]) -> u64;
 }
 
 extern "C" {
@@ -173,14 +170,6 @@ extern "C" {
         calls_len: usize,
         answers: *mut u64,
         answers_len: usize,
-    ) -> u64;
-    fn save_setup(
-        record: *mut u64,
-        record_len: usize,
-        memory: *const u16,
-        memory_len: usize,
-        out: *mut u8,
-        out_len: usize,
     ) -> u64;
 }
 
@@ -203,11 +192,4 @@ pub fn proved(record: &mut Record, memory: &mut [u16], calls: &[Call], replies: 
         )
     };
     assert_eq!(ran as usize, calls.len() / 4, "calls run");
-}
-
-/// The proved library's save, answered as [`Machine::save`] is.
-pub fn proved_save(record: &mut Record, memory: &[u16], buffer: &mut [u8]) -> u64 {
-    let (record_at, memory_at, buffer_at) = (record.as_mut_ptr(), memory.as_ptr(), buffer.as_mut_ptr());
-    // SAFETY: each pointer goes with the length of its slice, no two overlap, and `save_setup` has no `requires`.
-    unsafe { save_setup(record_at, RECORD, memory_at, memory.len(), buffer_at, buffer.len()) }
 }

@@ -5,14 +5,12 @@ use crate::lists::Step;
 use crate::models::{answer_of, Model};
 use crate::numbers::*;
 use crate::orders::{self, Orders};
-use crate::saves::{self, Saved};
 
 /// What a step gave.
 pub enum Done {
     Put,
     Reply(Reply),
     Both(Orders),
-    Saved(Saved),
 }
 
 /// The two machines beside each other, with the account that goes with the second.
@@ -39,7 +37,7 @@ impl<M: Machine> Pair<M> {
         }
     }
 
-    /// One step on both; says where they differ. Two writes in both orders leave all as it stands, and so does a save.
+    /// One step on both; says where they differ. Two writes in both orders leave all as it stands.
     pub fn step(&mut self, step: &Step) -> Result<Done, String> {
         match step {
             Step::Put(record) => {
@@ -52,7 +50,6 @@ impl<M: Machine> Pair<M> {
             Step::Both { memory, writes } => {
                 orders::run::<M>(&self.proved, &self.memories[*memory], *writes).map(Done::Both)
             }
-            Step::Save(save) => saves::run::<M>(&self.proved, &self.memories[save.memory], save).map(Done::Saved),
         }
     }
 

@@ -10,20 +10,13 @@ use std::process::{Command, ExitCode, Stdio};
 
 /// A script of random calls, with some lines of other form.
 fn script(seed: u64) -> Vec<u8> {
-    let mut random = Random::new(seed ^ 0x5C21);
-    let length = random.pick(&[5, 60, 400, 2_000, 4_200]);
-    let mut text = lines(seed, length, &mut random);
-    finish(&mut text, &mut random);
-    text
-}
-
-/// The first line and those of random calls.
-pub fn lines(seed: u64, length: usize, random: &mut Random) -> Vec<u8> {
     let mut maker = Maker::new(seed);
     let mut memory = vec![0; 4_096];
     let mut record = FRESH;
     let mut text = console::FIRST_LINE.to_vec();
     text.push(b'\n');
+    let mut random = Random::new(seed ^ 0x5C21);
+    let length = random.pick(&[5, 60, 400, 2_000, 4_200]);
     // Memory words first: a script starts with all of them 0.
     for _ in 0..random.below(40) {
         let (place, word) = (random.below(4_096), random.next() & 0xFFF0 | random.pick(&[3, 5, 9, 0]));
@@ -50,15 +43,10 @@ pub fn lines(seed: u64, length: usize, random: &mut Random) -> Vec<u8> {
         Model::call(&mut record, &mut memory, cut);
         text.extend(line.bytes());
         if random.once_in(60) {
-            spoil(&mut text, random);
+            spoil(&mut text, &mut random);
         }
         text.push(b'\n');
     }
-    text
-}
-
-/// By chance no last newline, a bad first line, or about the length of the longest script.
-pub fn finish(text: &mut Vec<u8>, random: &mut Random) {
     if random.once_in(4) {
         text.pop();
     }
@@ -69,6 +57,7 @@ pub fn finish(text: &mut Vec<u8>, random: &mut Random) {
     if random.once_in(20) {
         text.resize(console::LONGEST_SCRIPT + random.below(3) as usize - 1, b'\n');
     }
+    text
 }
 
 /// One byte of the text's last line put to another, left out, or added.
@@ -96,41 +85,32 @@ fn printed(program: &str, script: &[u8]) -> std::io::Result<Vec<u8>> {
     Ok(output.stdout)
 }
 
-/// What the program prints for a script, which must be what the model's own prints.
-pub fn alike(program: &str, script: &[u8], model: fn(&[u8]) -> Vec<u8>) -> Result<Vec<u8>, String> {
-    let ours = model(script);
-    let theirs = printed(program, script).map_err(|error| format!("{program}: {error}"))?;
-    if ours == theirs {
-        return Ok(ours);
-    }
-    let line = ours.split(|&b| b == b'\n').zip(theirs.split(|&b| b == b'\n')).take_while(|(a, b)| a == b).count();
-    let mut says = format!("in answer {}", line + 1);
-    for (who, bytes) in [("model", &ours), ("program", &theirs)] {
-        let answer = bytes.split(|&b| b == b'\n').nth(line).unwrap_or_default();
-        says += &format!("\n  {who}: {}", String::from_utf8_lossy(answer));
-    }
-    Err(format!("{says}\nthe script:\n{}", String::from_utf8_lossy(script)))
-}
-
-/// Runs so many scripts of a seed by `run`, which gives how many bytes were printed; gives their sum, or none after a
-/// difference.
-pub fn all(seed: u64, count: u64, mut run: impl FnMut(u64) -> Result<usize, String>) -> Option<usize> {
+pub fn compare(program: &str, seed: u64, count: u64) -> ExitCode {
     let mut bytes = 0;
     for list in 0..count {
-        match run(seed.wrapping_mul(1_000_003).wrapping_add(list)) {
-            Ok(printed) => bytes += printed,
-            Err(says) => {
-                println!("DIFFERENCE: seed {seed}, script {list}, {says}");
-                return None;
+        let script = script(seed.wrapping_mul(1_000_003).wrapping_add(list));
+        let ours = console::answers(&script);
+        let theirs = match printed(program, &script) {
+            Ok(bytes) => bytes,
+            Err(error) => {
+                println!("{program}: {error}");
+                return ExitCode::FAILURE;
             }
+        };
+        if ours != theirs {
+            let line =
+                ours.split(|&b| b == b'\n').zip(theirs.split(|&b| b == b'\n')).take_while(|(a, b)| a == b).count();
+            println!("DIFFERENCE: seed {seed}, script {list}, in answer {}", line + 1);
+            for (who, bytes) in [("model", &ours), ("program", &theirs)] {
+                let answer = bytes.split(|&b| b == b'\n').nth(line).unwrap_or_default();
+                println!("  {who}: {}", String::from_utf8_lossy(answer));
+            }
+            println!("the script:");
+            println!("{}", String::from_utf8_lossy(&script));
+            return ExitCode::FAILURE;
         }
+        bytes += ours.len();
     }
-    Some(bytes)
-}
-
-pub fn compare(program: &str, seed: u64, count: u64) -> ExitCode {
-    let run = |seed: u64| alike(program, &script(seed), console::answers).map(|bytes| bytes.len());
-    let Some(bytes) = all(seed, count, run) else { return ExitCode::FAILURE };
     println!("{count} scripts compared, {bytes} bytes printed alike");
     ExitCode::SUCCESS
 }

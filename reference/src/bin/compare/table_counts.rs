@@ -238,6 +238,9 @@ impl TableCounts {
 
     /// Every name with its count.
     pub fn rows(&self) -> Vec<(String, u64)> {
+        let named = |names: &[&str], counts: &[u64]| -> Vec<(String, u64)> {
+            names.iter().zip(counts).map(|(name, &count)| (name.to_string(), count)).collect()
+        };
         let mut rows = [named(&FILLS, &self.fills), named(&DECLINES, &self.declines)].concat();
         for (name, kind) in KINDS_OF_BAD {
             rows.push((format!("fill declined 8, a single bad word: {name}"), self.bad[kind].iter().sum()));
@@ -261,12 +264,8 @@ fn kind(word: u16) -> usize {
     4 * usize::from(word & 1) + (word >> 1 & 7).count_ones() as usize
 }
 
-pub fn count<const N: usize>(counts: &mut [u64], is: [bool; N]) {
+fn count<const N: usize>(counts: &mut [u64], is: [bool; N]) {
     for (count, is) in counts.iter_mut().zip(is) {
         *count += u64::from(is);
     }
-}
-
-pub fn named(names: &[&str], counts: &[u64]) -> Vec<(String, u64)> {
-    names.iter().zip(counts).map(|(name, &count)| (name.to_string(), count)).collect()
 }

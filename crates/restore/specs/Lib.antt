@@ -1,3 +1,0 @@
--- The definitions, in the order of reading. Nothing is decided here. Assumes nothing.
-pub mod Restored
-pub mod SetupExample

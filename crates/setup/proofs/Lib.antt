@@ -1,3 +1,0 @@
--- The laws; the proofs of functions stand in folders of their own. Assumes nothing.
-pub mod SetupLaws
-pub mod BufferLaws
