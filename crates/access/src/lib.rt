@@ -1,5 +1,7 @@
 // What a register write that is carried out does to the record, and what a read leaves and gives (document 01, "Registers";
 // document 02, N2, N4 and N5). The definitions are in specs/Access.antt; STATE has a crate of its own.
+#![tactic(auto)]
+
 ghost use Rattle.std.specs.Prelude.{◌≡◌};
 ghost use Rattle.branches.specs.ReadoutFields.{with_roc};
 ghost use Rattle.module_core.specs.CoreFields.{with_scalers};

@@ -1,5 +1,7 @@
 // Words seen as bits: one bit, words made from bools, bits set and cleared, the bytes of a word, a choice.
 // The definitions are in specs/, their laws in proofs/.
+#![tactic(auto)]
+
 ghost use Rattle.std.specs.Prelude.{◌≡◌, false, ◌≤◌, ◌<◌, get_or};
 ghost use Rattle.bits.specs.Notation.{if◌then◌else◌};
 ghost use Rattle.bits.specs.Bits.{bit_at, one_if_of, mask_of, set_of, clear_of, has_only};

@@ -1,6 +1,8 @@
 // One branch: a queue of at most eight words and a handshake with its readout controllers (document 01, "The tick",
 // Branches). The queue is one number, a byte for each place, the first word lowest: a step is shifts and choices, with
 // no index and no loop. Every public contract is an equality with a definition of specs/Branch.antt.
+#![tactic(auto)]
+
 ghost use Rattle.std.specs.Prelude.{◌≡◌, ◌&&◌, ◌+◌, ◌-◌, ◌*◌, ◌%◌, ◌^◌, ltb};
 ghost use Rattle.std.specs.Int.Bits.{bit_or};
 ghost use Rattle.bits.specs.Notation.{if◌then◌else◌};

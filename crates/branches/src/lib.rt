@@ -2,6 +2,8 @@
 // 01, "The tick", Branches; document 02, N2, N5). The rest of the record sees the branches through these tests alone, and they
 // see it through the word to load. The definitions are in specs/Readout.antt, over any number of branches; what STATE shows
 // of each branch is in handshakes, what a held tick shows in standing.
+#![tactic(auto)]
+
 ghost use Rattle.std.specs.Prelude.{◌≡◌, length};
 ghost use Rattle.branches.specs.Readout.{module_branches, fresh_of, emptied_of, is_empty_of, has_room_of};
 ghost use Rattle.branches.specs.Readout.{is_quiet_of, side_after_of, gathered_of, silent_of, step_of};

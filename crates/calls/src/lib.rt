@@ -2,6 +2,8 @@
 // input by itself, and hands back the next record with its answer. No call has a `requires`; each contract is an equality
 // with a definition of crate `declines`, for every record and every memory; `write_memory` and `fill_memory` have one more, for
 // the memory.
+#![tactic(auto)]
+
 ghost use Rattle.std.specs.Prelude.{◌≡◌};
 ghost use Rattle.declines.specs.Calls.{is_guarded_of};
 ghost use Rattle.declines.specs.Calls.{write_run_of, read_run_of, write_register_of, read_register_of, write_bytes_of, read_bytes_of};

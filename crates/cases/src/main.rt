@@ -1,6 +1,8 @@
 // Runs the stored scripts of data/scripts through the library and prints the answers of each, with a line `--` after it.
 // A byte 1Eh ends each script there. Two more scripts, of 65,536 and 65,537 bytes, are made here. What must be printed,
 // in the file stdout, comes from the model in reference/ and never from this program.
+#![tactic(auto)]
+
 ghost use Rattle.std.specs.Prelude.{◌≡◌, length};
 
 use bytes::scan;

@@ -1,5 +1,7 @@
 // The console (document 01, "Console program"): a script on standard input, its answers on standard output. Input and
 // output stand here; everything else is `script::answers`, which is proved.
+#![tactic(auto)]
+
 ghost use Rattle.std.specs.Prelude.{◌≤◌, ◌≡◌, length};
 
 use libc::{STDIN_FILENO, STDOUT_FILENO};

@@ -1,5 +1,7 @@
 // What the public calls answer: the types of their answers, and the documents' number of each decline. What each call
 // answers, and in what order it declines, is defined in specs/; crate `calls` has the calls themselves.
+#![tactic(auto)]
+
 ghost use Rattle.std.specs.Prelude.{◌≡◌, ◌≤◌};
 ghost use Rattle.declines.specs.Answers.{decline_number, bytes_decline_number, bytes_verdict_of, bytes_reading_of};
 ghost use Rattle.declines.specs.Answers.{fill_decline_number};

@@ -1,5 +1,7 @@
 // The calls on plain numbers, for reference/compare to link: a record and a list of calls go in as numbers, and the
 // answers and the next record come out. No contract is made here; the functions are proved safe and ending.
+#![tactic(auto)]
+
 use numbers::{number_at, put_eight, put_record, record_in};
 use run::Run;
 use supervisor::Supervisor;

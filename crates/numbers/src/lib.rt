@@ -2,6 +2,8 @@
 //
 // A record is numbers by their place: the registers are 0–19, and the place of every other field stands with its part, in
 // core_part and readout_part. A new number is appended after the last place taken.
+#![tactic(auto)]
+
 use core_part::{core_in, put_core};
 use readout_part::{put_readout, readout_in};
 use supervisor::Supervisor;

@@ -1,6 +1,8 @@
 // The loop that reference/bench measures: ticks by the public call, over a table of inputs that the caller lends. It is
 // a crate of its own, so that the program has one call of the tick and the compiler puts it into the loop.
 // No contract says what the sum is; reference/bench compares it with the model's.
+#![tactic(auto)]
+
 use branch::{Branch, Slot};
 use branches::{Readout, Side};
 use module_core::Core;

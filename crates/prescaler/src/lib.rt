@@ -1,5 +1,7 @@
 // The prescalers of inputs 1–8 (document 01, "The tick", Pulses; document 02, N4): of F + 1 counted pulses the last passes.
 // The bank goes in by value and comes back. Every contract is an equality with a definition of specs/.
+#![tactic(auto)]
+
 ghost use Rattle.std.specs.Prelude.{◌≡◌, true, ◌≤◌, eqb};
 ghost use Rattle.bits.specs.Notation.{if◌then◌else◌};
 ghost use Rattle.prescaler.specs.Prescaler.{fresh_of, with_factor_of, factor_of, reloaded_of};

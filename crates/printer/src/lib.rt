@@ -1,5 +1,7 @@
 // How an answer is printed (document 01, "Console program"). The definitions are in specs/Printer.antt, and in specs/TickParts.antt
 // for the parts of a tick's answer. Each function writes its text on the page from `at` on and answers the place after it.
+#![tactic(auto)]
+
 ghost use Rattle.std.specs.Prelude.{◌≡◌, ◌≤◌, [], ◌∷◌, ◌++◌};
 ghost use Rattle.declines.specs.Answers.{verdict_reply, reading_reply, tick_reply, ticked};
 ghost use Rattle.text.specs.Text.{newline, hex};

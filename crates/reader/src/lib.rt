@@ -1,5 +1,7 @@
 // The script's reader (document 01, "Console program"). The definitions are in specs/Reader.antt. Reading is total: past
 // the end of a line stands 0, a byte of no form.
+#![tactic(auto)]
+
 ghost use Rattle.std.specs.Prelude.{◌≡◌, ◌+◌, ◌<◌, ◌≤◌, ◌^◌, length};
 ghost use Rattle.reader.specs.Reader.{byte_of, has_digits_of, has_field_of, is_write_register_of, is_read_register_of};
 ghost use Rattle.reader.specs.Reader.{is_write_memory_of, is_read_memory_of, is_tick_of, number_at, command_of};

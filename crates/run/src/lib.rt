@@ -1,5 +1,7 @@
 // A run of neighbours among the four bytes of a register's word (document 02, N4): which bytes it holds, and the word that
 // it makes of two. The definitions are in specs/Run.antt.
+#![tactic(auto)]
+
 ghost use Rattle.std.specs.Prelude.{◌≡◌};
 ghost use Rattle.bits.specs.Notation.{if◌then◌else◌};
 ghost use Rattle.run.specs.Run.{whole, is_whole_of, is_run_of, holds_byte, has_byte3, byte_mask_of, overlaid_of, cut_of};

@@ -1,4 +1,6 @@
 // The two scalers and their latches (document 01, "Registers"; document 02, N4). The definitions are in specs/Scalers.antt.
+#![tactic(auto)]
+
 ghost use Rattle.std.specs.Prelude.{◌≡◌};
 ghost use Rattle.scalers.specs.Scalers.{fresh_of, zeroed_of, latched_of, latch_of, reset_of};
 ghost use Rattle.scalers.specs.Scalers.{is_some, is_none_of, counts_of, add_of, counted_of};

@@ -1,5 +1,7 @@
 // The console's script (document 01, "Console program"): a script goes in, its answers come out. The definitions are in
 // specs/Script.antt. `answers` has no `requires`: it answers every script, and what it prints always fits.
+#![tactic(auto)]
+
 ghost use Rattle.std.specs.Prelude.{◌≡◌, ◌+◌, ◌≤◌, take, drop, length};
 ghost use Rattle.bits.specs.Bytes.{is_same_of};
 ghost use Rattle.declines.specs.Runs.{zero_memory};

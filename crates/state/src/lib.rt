@@ -1,5 +1,7 @@
 // The STATE register, made of its four bytes (document 02, N2). The definitions are in specs/State.antt, where each bit has
 // its name.
+#![tactic(auto)]
+
 ghost use Rattle.std.specs.Prelude.{◌≡◌, ◌<◌};
 ghost use Rattle.state.specs.State.{state_of, state_byte_of};
 

@@ -1,5 +1,7 @@
 // The supervisor's whole record (documents 01 and 02): the core, and the readout of one module. Each method takes the record by
 // value and hands back the next one. The definitions are in specs/Supervisor.antt.
+#![tactic(auto)]
+
 ghost use Rattle.std.specs.Prelude.{◌≡◌};
 ghost use Rattle.branches.specs.Readout.{module_branches};
 ghost use Rattle.supervisor.specs.Supervisor.{with_readout, with_core, fresh_of, initialized_of, reset_of};

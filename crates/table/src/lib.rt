@@ -1,5 +1,7 @@
 // A filled memory for customers who bring none (document 02, N7): the shipped words, which words the generator takes, and the
 // word at every place. The definitions are in specs/; crate `calls` has the call that fills, with its declines.
+#![tactic(auto)]
+
 ghost use Rattle.std.specs.Prelude.{◌≡◌, ◌<◌, length};
 ghost use Rattle.table.specs.Shipped.{shipped_words};
 ghost use Rattle.table.specs.Table.{is_taken_word, are_taken, over_of, table_word_of, table_of};

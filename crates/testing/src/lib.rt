@@ -1,5 +1,7 @@
 // Test mode and the held clock (document 02, N5): TEST, register 21, as the word of its bits that wait; the inputs in force in
 // a tick that runs; the masks of one that is held. The definitions are in specs/.
+#![tactic(auto)]
+
 ghost use Rattle.std.specs.Prelude.{◌≡◌};
 ghost use Rattle.testing.specs.TestWord.{fresh_of, pulses_inputs, steps, replaces_acks, taken_of, written_of, lines_of};
 ghost use Rattle.testing.specs.TestWord.{acks_of};

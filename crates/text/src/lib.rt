@@ -1,6 +1,8 @@
 // The bytes that a script and its answers are made of: hexadecimal digits, and the buffer that answers are printed in
 // (document 01, "Console program"; specs/Text.antt). Every function that prints has one contract: the page after it is the page before it
 // with its text written on (specs/Page.antt). A full page takes nothing more, so none asks how much room is left.
+#![tactic(auto)]
+
 ghost use Rattle.std.specs.Prelude.{◌≡◌, ◌/◌, ◌%◌, ◌^◌, ◌<◌, ◌≤◌};
 ghost use Rattle.text.specs.Text.{is_digit_of, digit_of, hex_digit, hex};
 ghost use Rattle.text.specs.Page.{page, write, write_byte};

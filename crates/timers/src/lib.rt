@@ -1,5 +1,7 @@
 // The timers T1–T5 (document 01, "Registers"), in two units that meet nowhere but in ticks.
 // The definitions are in specs/Timers.antt.
+#![tactic(auto)]
+
 ghost use Rattle.std.specs.Prelude.{◌≡◌};
 ghost use Rattle.timers.specs.Timers.{count40_ticks_of, count20_ticks_of, fresh_of, is_reached};
 ghost use Rattle.timers.specs.Timers.{written_of, stored_of, is_late_due, front_test_of, clear_count_of};

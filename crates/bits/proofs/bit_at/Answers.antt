@@ -1,0 +1,16 @@
+-- `bits::bit_at` meets its contract: below 32 the shift gives the bit; above, by the width law, there is none.
+-- Printed by rt dev; `returns-2` was written by hand. Assumes nothing.
+use Prim.Native.Nat.{◌^◌}
+use mathlib.Core.Path.{sym}
+use borrow.Author.Tests.{lt-ltb}
+use Rattle.bits.proofs.WidthLaws.{fits_iff_no_bit_outside}
+use Rattle.std.proofs.Common.{rules, ◌≡◌, false, ◌≤◌, ◌<◌, get_or, ℕ, ◌+◌, ◌-◌, ◌*◌, length, ◌/◌, ◌%◌, Bool, true, nat_eq, nat_lt, List, [], ◌∷◌, ◌++◌, slice_set, bit_and, bit_or, Fits, w8, w32, w64, Bor, MutBor}
+use Rattle.bits.specs.Notation.{if◌then◌else◌}
+use Rattle.bits.specs.Bits.{bit_at, one_if_of, mask_of, set_of, clear_of, has_only}
+use Rattle.bits.specs.Bytes.{bytes_of}
+use Rattle.bits.proofs.bit_at.Goals as goal
+
+pub returns : goal.returns
+returns c =
+    let word : _ = c.args.word in
+    sym ((fits_iff_no_bit_outside 32 word).0 (lt-ltb word (2 ^ 32) (search rules)) c.args.i c.if-i-lt32.false)
