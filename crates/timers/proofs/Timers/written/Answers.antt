@@ -1,0 +1,44 @@
+-- `timers::Timers::written` meets its contract: one return for each timer.
+-- First written by tools/prove.py. Assumes nothing.
+use Rattle.timers.specs.Timers.{written_of}
+use borrow.Author.Tests.{eq-eqb, ne_eqb}
+use Rattle.std.proofs.Common.{rules, ◌≡◌, ℕ, ◌+◌, ◌-◌, ◌*◌, ◌<◌, ◌≤◌, length, ◌/◌, ◌%◌, Bool, true, false, nat_eq, nat_lt, List, [], ◌∷◌, ◌++◌, slice_index_or, slice_set, bit_and, bit_or, Fits, w8, w32, w64, Bor, MutBor}
+use Rattle.timers.specs.Timers.{count40_ticks_of, count20_ticks_of, fresh_of, is_reached, written_of, stored_of, is_late_due, front_test_of, clear_count_of}
+use Rattle.timers.proofs.Timers.written.Goals as goal
+
+pub returns-then-n-eq1 : goal.returns-then-n-eq1
+unfolding written_of
+returns-then-n-eq1 c = rw (eq-eqb _ _ c.if-n-eq1.true)
+
+pub returns-then-n-eq2 : goal.returns-then-n-eq2
+unfolding written_of
+returns-then-n-eq2 c = rw (eq-eqb _ _ c.if-n-eq2.true, ne_eqb _ _ c.if-n-eq1.false)
+
+pub returns-then-n-eq3 : goal.returns-then-n-eq3
+unfolding written_of
+returns-then-n-eq3 c =
+    rw (
+      eq-eqb _ _ c.if-n-eq3.true,
+      ne_eqb _ _ c.if-n-eq2.false,
+      ne_eqb _ _ c.if-n-eq1.false,
+    )
+
+pub returns-then-n-eq4 : goal.returns-then-n-eq4
+unfolding written_of
+returns-then-n-eq4 c =
+    rw (
+      eq-eqb _ _ c.if-n-eq4.true,
+      ne_eqb _ _ c.if-n-eq3.false,
+      ne_eqb _ _ c.if-n-eq2.false,
+      ne_eqb _ _ c.if-n-eq1.false,
+    )
+
+pub returns : goal.returns
+unfolding written_of
+returns c =
+    rw (
+      ne_eqb _ _ c.if-n-eq4.false,
+      ne_eqb _ _ c.if-n-eq3.false,
+      ne_eqb _ _ c.if-n-eq2.false,
+      ne_eqb _ _ c.if-n-eq1.false,
+    )
