@@ -18,7 +18,7 @@ use bits::select;
 // One bit for each readout controller of a branch: its acknowledge, or whether it is enabled.
 pub type Controllers = u8;
 
-#[derive(Drop)]
+#[derive(Clone, Copy)]
 pub enum Phase {
     Rest,
     Strobe,
@@ -26,13 +26,13 @@ pub enum Phase {
 }
 
 // A load, a finished word or a shown one.
-#[derive(Drop)]
+#[derive(Clone, Copy)]
 pub enum Slot {
     Nothing,
     Word(u8),
 }
 
-#[derive(Drop)]
+#[derive(Clone, Copy)]
 pub struct Branch {
     // place j is byte j
     pub words: u64,
@@ -41,7 +41,7 @@ pub struct Branch {
     pub phase: Phase,
 }
 
-#[derive(Drop)]
+#[derive(Clone, Copy)]
 pub struct BranchStep {
     pub next: Branch,
     pub finished: Slot,

@@ -16,7 +16,7 @@ use branch::{Branch, BranchStep, Slot};
 mod handshakes;
 mod standing;
 
-#[derive(Drop)]
+#[derive(Clone, Copy)]
 pub struct Readout {
     // place k is branch k + 1
     pub branches: [Branch; 4],
@@ -27,13 +27,13 @@ pub struct Readout {
 }
 
 // What a branch finished and what it shows after the tick.
-#[derive(Drop)]
+#[derive(Clone, Copy)]
 pub struct Side {
     pub finished: Slot,
     pub shown: Slot,
 }
 
-#[derive(Drop)]
+#[derive(Clone, Copy)]
 pub struct ReadoutStep {
     pub next: Readout,
     pub sides: [Side; 4],

@@ -9,7 +9,7 @@ ghost use Rattle.declines.specs.Answers.{fill_decline_number};
 use supervisor::{Answer, Supervisor};
 
 // Why a call is declined; specs/Answers.antt has document 01's number for each.
-#[derive(Drop)]
+#[derive(Clone, Copy)]
 pub enum Decline {
     Spoiled,
     Length,
@@ -35,21 +35,21 @@ impl Decline {
 }
 
 // The answer to a write, and whether a tick was carried out.
-#[derive(Drop)]
+#[derive(Clone, Copy)]
 pub enum Verdict {
     Done,
     Declined(Decline),
 }
 
 // The answer to a read.
-#[derive(Drop)]
+#[derive(Clone, Copy)]
 pub enum Reading {
     Value(u32),
     Declined(Decline),
 }
 
 // Why a register call by a run of bytes is declined: as the plain call is, or the run is none of the ten.
-#[derive(Drop)]
+#[derive(Clone, Copy)]
 pub enum BytesDecline {
     Plain(Decline),
     BadRun,
@@ -71,21 +71,21 @@ impl BytesDecline {
 }
 
 // The answer to a register write by a run of bytes.
-#[derive(Drop)]
+#[derive(Clone, Copy)]
 pub enum BytesVerdict {
     Done,
     Declined(BytesDecline),
 }
 
 // The answer to a register read by a run of bytes.
-#[derive(Drop)]
+#[derive(Clone, Copy)]
 pub enum BytesReading {
     Value(u32),
     Declined(BytesDecline),
 }
 
 // Why a fill of the memory is declined: as a memory write is, or one of the words is not taken.
-#[derive(Drop)]
+#[derive(Clone, Copy)]
 pub enum FillDecline {
     Plain(Decline),
     BadWord,
@@ -107,7 +107,7 @@ impl FillDecline {
 }
 
 // The answer to a fill of the memory.
-#[derive(Drop)]
+#[derive(Clone, Copy)]
 pub enum FillVerdict {
     Done,
     Declined(FillDecline),
@@ -137,37 +137,37 @@ impl Reading {
     }
 }
 
-#[derive(Drop)]
+#[derive(Clone, Copy)]
 pub struct WriteDone {
     pub next: Supervisor,
     pub answer: Verdict,
 }
 
-#[derive(Drop)]
+#[derive(Clone, Copy)]
 pub struct ReadDone {
     pub next: Supervisor,
     pub answer: Reading,
 }
 
-#[derive(Drop)]
+#[derive(Clone, Copy)]
 pub struct BytesWriteDone {
     pub next: Supervisor,
     pub answer: BytesVerdict,
 }
 
-#[derive(Drop)]
+#[derive(Clone, Copy)]
 pub struct BytesReadDone {
     pub next: Supervisor,
     pub answer: BytesReading,
 }
 
-#[derive(Drop)]
+#[derive(Clone, Copy)]
 pub struct FillDone {
     pub next: Supervisor,
     pub answer: FillVerdict,
 }
 
-#[derive(Drop)]
+#[derive(Clone, Copy)]
 pub struct TickDone {
     pub next: Supervisor,
     pub answer: Answer,

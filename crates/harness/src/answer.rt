@@ -11,7 +11,7 @@ use sequencer::states::Outcome;
 use supervisor::Supervisor;
 
 // What a call leaves.
-#[derive(Drop)]
+#[derive(Clone, Copy)]
 pub struct Reply {
     pub next: Supervisor,
     pub numbers: [u64; 8],

@@ -11,7 +11,7 @@ use trigger::latch::Latch;
 use trigger::lines::Lines;
 
 // A step, and whether it is known to be quiet: main alone changes, and nothing is reported.
-#[derive(Drop)]
+#[derive(Clone, Copy)]
 pub struct Cycled {
     pub step: MainStep,
     pub quiet: bool,

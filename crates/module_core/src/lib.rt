@@ -28,7 +28,7 @@ mod idle;
 mod rebuilt;
 mod spoiled;
 
-#[derive(Drop)]
+#[derive(Clone, Copy)]
 pub struct Core {
     // registers 2–9 and their counters
     pub prescalers: Prescalers,
@@ -49,13 +49,13 @@ pub struct Core {
 }
 
 // What became of the pulses that passed, and the memory's word for them.
-#[derive(Drop)]
+#[derive(Clone, Copy)]
 pub struct Latched {
     pub latch: Latch,
     pub word: u16,
 }
 
-#[derive(Drop)]
+#[derive(Clone, Copy)]
 pub struct CoreStep {
     pub next: Core,
     pub masks: Masks,

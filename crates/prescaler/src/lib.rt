@@ -11,14 +11,14 @@ ghost use Rattle.prescaler.specs.Prescaler.{all_fit_of, has_counters_within_of, 
 use registers::register::Register;
 
 // Place i is input i + 1.
-#[derive(Drop)]
+#[derive(Clone, Copy)]
 pub struct Prescalers {
     pub counters: [u32; 8],
     pub factors: [u32; 8],
 }
 
 // The next bank, and the counted pulses of all twelve inputs by what became of them: bit i is input i + 1.
-#[derive(Drop)]
+#[derive(Clone, Copy)]
 pub struct Prescaled {
     pub next: Prescalers,
     pub stopped: u32,

@@ -11,7 +11,7 @@ use bytes::scan;
 use text::{digit, is_digit};
 
 // What a line asks.
-#[derive(Drop)]
+#[derive(Clone, Copy)]
 pub enum Command {
     WriteRegister(u32, u32),
     ReadRegister(u32),
@@ -22,7 +22,7 @@ pub enum Command {
 }
 
 // A line of the script: how many bytes stand before its newline, and what it asks.
-#[derive(Drop)]
+#[derive(Clone, Copy)]
 pub struct Line {
     pub len: usize,
     pub command: Command,

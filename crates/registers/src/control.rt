@@ -3,7 +3,7 @@ ghost use Rattle.std.specs.Prelude.{◌≡◌};
 ghost use Rattle.registers.specs.Control.{fresh_of, is_strobe_mode, opens_prescales, counted_of, enabled_of};
 
 // The word that a read of register 1 gives.
-#[derive(Drop)]
+#[derive(Clone, Copy)]
 pub struct Control {
     pub word: u32,
 }

@@ -7,7 +7,7 @@ ghost use Rattle.bits.specs.Notation.{if◌then◌else◌};
 ghost use Rattle.run.specs.Run.{whole, is_whole_of, is_run_of, holds_byte, has_byte3, byte_mask_of, overlaid_of, cut_of};
 
 // A first byte and a count; BYTE(0) is the highest of a word, BYTE(3) the lowest. Any two numbers may be given.
-#[derive(Drop)]
+#[derive(Clone, Copy)]
 pub struct Run {
     pub first: u32,
     pub count: u32,

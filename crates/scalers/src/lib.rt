@@ -5,7 +5,7 @@ ghost use Rattle.std.specs.Prelude.{◌≡◌};
 ghost use Rattle.scalers.specs.Scalers.{fresh_of, zeroed_of, latched_of, latch_of, reset_of};
 ghost use Rattle.scalers.specs.Scalers.{is_some, is_none_of, counts_of, add_of, counted_of};
 
-#[derive(Drop)]
+#[derive(Clone, Copy)]
 pub struct Scalers {
     // registers 17 and 18
     pub scaler0: u32,
@@ -18,7 +18,7 @@ pub struct Scalers {
 }
 
 // What a tick brings the scalers.
-#[derive(Drop)]
+#[derive(Clone, Copy)]
 pub struct Signals {
     // pulses past the prescalers, and those of them rejected and accepted
     pub passed: u32,

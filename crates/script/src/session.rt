@@ -23,7 +23,7 @@ const REGISTER_DIGITS: u32 = 8;
 const WORD_DIGITS: u32 = 4;
 
 // What a line leaves: the record, and the place after its answer.
-#[derive(Drop)]
+#[derive(Clone, Copy)]
 pub struct LineDone {
     pub next: Supervisor,
     pub at: usize,

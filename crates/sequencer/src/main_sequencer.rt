@@ -9,7 +9,7 @@ ghost use Rattle.sequencer.specs.MainSequencer.{is_class_of_wait2, is_well_forme
 use super::memory_word::{accept_in, class_in, code_in};
 use super::states::{Outcome, State};
 
-#[derive(Drop)]
+#[derive(Clone, Copy)]
 pub struct MainSequencer {
     pub state: State,
     // 01 calls it c: ticks for which the clear line stays high
@@ -27,7 +27,7 @@ pub struct MainSequencer {
 }
 
 // The tests of a tick, on the record at its start and the risen age.
-#[derive(Drop)]
+#[derive(Clone, Copy)]
 pub struct Tests {
     pub fail2: bool,
     pub pass2: bool,
@@ -50,7 +50,7 @@ pub struct Tests {
     pub clear: u8,
 }
 
-#[derive(Drop)]
+#[derive(Clone, Copy)]
 pub struct MainStep {
     pub next: MainSequencer,
     pub outcome: Outcome,

@@ -3,7 +3,7 @@
 ghost use Rattle.std.specs.Prelude.{◌≡◌};
 ghost use Rattle.sequencer.specs.States.{is_idle, is_loaded, is_wait2, is_sync_hold, is_event};
 
-#[derive(Drop)]
+#[derive(Clone, Copy)]
 pub enum State {
     Idle,
     Delay,
@@ -82,7 +82,7 @@ impl State {
 }
 
 // What became of an event in a tick, or the tag of a user sync.
-#[derive(Drop)]
+#[derive(Clone, Copy)]
 pub enum Outcome {
     Nothing,
     Cleared,

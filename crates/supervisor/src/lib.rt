@@ -16,7 +16,7 @@ use testing::held_masks;
 use trigger::latch::Masks;
 use trigger::lines::Inputs;
 
-#[derive(Drop)]
+#[derive(Clone, Copy)]
 pub struct Supervisor {
     // the branches and ROC enable
     pub readout: Readout,
@@ -25,7 +25,7 @@ pub struct Supervisor {
 }
 
 // A tick's answer.
-#[derive(Drop)]
+#[derive(Clone, Copy)]
 pub struct Answer {
     pub masks: Masks,
     // lines out after the tick
@@ -35,7 +35,7 @@ pub struct Answer {
     pub sides: [Side; 4],
 }
 
-#[derive(Drop)]
+#[derive(Clone, Copy)]
 pub struct Ticked {
     pub next: Supervisor,
     pub answer: Answer,

@@ -2,7 +2,7 @@
 ghost use Rattle.std.specs.Prelude.{◌≡◌};
 ghost use Rattle.sync.specs.SyncCounter.{fresh_of, is_due, after_load_of, zeroed_of, is_within};
 
-#[derive(Drop)]
+#[derive(Clone, Copy)]
 pub struct SyncCounter {
     // register 11
     pub interval: u16,

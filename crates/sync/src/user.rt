@@ -2,13 +2,13 @@
 ghost use Rattle.std.specs.Prelude.{◌≡◌};
 ghost use Rattle.sync.specs.UserSync.{fresh_of, step_of};
 
-#[derive(Drop)]
+#[derive(Clone, Copy)]
 pub struct UserSync {
     // its tag is loaded, and the tick that finds every branch empty has not come
     pub waiting: bool,
 }
 
-#[derive(Drop)]
+#[derive(Clone, Copy)]
 pub struct UserStep {
     pub next: UserSync,
     // the tag is loaded in this tick

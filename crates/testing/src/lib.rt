@@ -14,7 +14,7 @@ use trigger::latch::Masks;
 use trigger::lines::{Inputs, Lines};
 
 // The bits of TEST that wait for the next tick that runs.
-#[derive(Drop)]
+#[derive(Clone, Copy)]
 pub struct TestWord {
     pub word: u32,
 }

@@ -7,14 +7,14 @@ ghost use Rattle.timers.specs.Timers.{count40_ticks_of, count20_ticks_of, fresh_
 ghost use Rattle.timers.specs.Timers.{written_of, stored_of, is_late_due, front_test_of, clear_count_of};
 
 // T1–T4: counts of 40 ns.
-#[derive(Drop)]
+#[derive(Clone, Copy)]
 pub struct Count40(pub u16);
 
 // T5: counts of 20 ns.
-#[derive(Drop)]
+#[derive(Clone, Copy)]
 pub struct Count20(pub u8);
 
-#[derive(Drop)]
+#[derive(Clone, Copy)]
 pub struct Timers {
     pub t1: Count40,
     pub t2: Count40,

@@ -2,7 +2,7 @@
 ghost use Rattle.std.specs.Prelude.{◌≡◌};
 ghost use Rattle.trigger.specs.BlindTime.{fresh_of, after_of, is_over, is_within};
 
-#[derive(Drop)]
+#[derive(Clone, Copy)]
 pub struct BlindTime {
     // ticks to come that are not ready
     pub count: u8,

@@ -8,7 +8,7 @@ use prescaler::Prescaled;
 use sequencer::memory_word::is_ok_word;
 
 // What became of the pulses that passed the prescalers.
-#[derive(Drop)]
+#[derive(Clone, Copy)]
 pub struct Latch {
     pub lost: u32,
     pub rejected: u32,
@@ -16,7 +16,7 @@ pub struct Latch {
 }
 
 // The five masks of a tick's answer; bit i is input i + 1.
-#[derive(Drop)]
+#[derive(Clone, Copy)]
 pub struct Masks {
     pub stopped: u32,
     pub scaled: u32,

@@ -6,7 +6,7 @@ ghost use Rattle.trigger.specs.Latest.{fresh_of, kept_of};
 use crate::latch::Latch;
 use crate::lines::Lines;
 
-#[derive(Drop)]
+#[derive(Clone, Copy)]
 pub struct Latest {
     pub lines: Lines,
     // a pattern was latched: rejected or accepted

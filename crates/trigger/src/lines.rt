@@ -4,12 +4,12 @@ ghost use Rattle.trigger.specs.Lines.{inputs_of};
 ghost use Rattle.trigger.specs.Lines.{has_strobe, has_pass2, has_fail2, has_pass3, has_fail3, has_front_busy, has_inhibit};
 
 // The seven lines, a bit each.
-#[derive(Drop)]
+#[derive(Clone, Copy)]
 pub struct Lines {
     pub word: u32,
 }
 
-#[derive(Drop)]
+#[derive(Clone, Copy)]
 pub struct Inputs {
     // bit i is a pulse of input i + 1
     pub triggers: u32,

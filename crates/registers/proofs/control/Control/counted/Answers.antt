@@ -1,0 +1,21 @@
+-- `registers::control::Control::counted` meets its contract: its test is the strobe's part of the rule, and each return
+-- has the rule's bits (`counted_when_open`, `counted_when_shut`).
+-- Written by hand over the lines that `rt dev` prints. Assumes nothing.
+use mathlib.Core.Path.{sym, ap, ◌∙◌}
+use mathlib.Core.Bool.{Bool, not, ◌||◌}
+use Rattle.registers.proofs.ControlLaws.{counted_when_open, counted_when_shut}
+use Rattle.std.proofs.Common.{rules, ◌≡◌, ℕ, ◌+◌, ◌-◌, ◌*◌, ◌<◌, ◌≤◌, length, ◌/◌, ◌%◌, Bool, true, false, nat_eq, nat_lt, List, [], ◌∷◌, ◌++◌, slice_index_or, slice_set, bit_and, bit_or, Fits, w8, w32, w64, Bor, MutBor}
+use Rattle.registers.specs.Control.{fresh_of, is_strobe_mode, opens_prescales, counted_of, enabled_of}
+use Rattle.registers.proofs.control.Control.counted.Goals as goal
+
+pub returns-then-is_strobe_mode-strobe : goal.returns-then-is_strobe_mode-strobe
+returns-then-is_strobe_mode-strobe c =
+    let a = c.args in
+    let mode = ap (λ (t : Bool). not t || a.strobe) (sym c.is_strobe_mode.ensures) in
+    rw c.enabled.ensures (counted_when_open a.strobe a.triggers a.self (mode ∙ c.if-is_strobe_mode-strobe.true))
+
+pub returns : goal.returns
+returns c =
+    let a = c.args in
+    let mode = ap (λ (t : Bool). not t || a.strobe) (sym c.is_strobe_mode.ensures) in
+    counted_when_shut a.strobe a.triggers a.self (mode ∙ c.if-is_strobe_mode-strobe.false)

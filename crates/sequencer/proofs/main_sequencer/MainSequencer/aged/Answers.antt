@@ -1,0 +1,32 @@
+-- `sequencer::main_sequencer::MainSequencer::aged` meets its contract: at Idle and at the limit the fields stay as they were, else the age is one more.
+-- First written by tools/prove.py. Assumes nothing.
+use Rattle.sequencer.specs.MainSequencer.{aged_of}
+use borrow.Author.Tests.{le-ltb, lt-ltb}
+use Rattle.std.proofs.Common.{rules, ◌≡◌, ℕ, ◌+◌, ◌-◌, ◌*◌, ◌<◌, ◌≤◌, length, ◌/◌, ◌%◌, Bool, true, false, nat_eq, nat_lt, List, [], ◌∷◌, ◌++◌, slice_index_or, slice_set, bit_and, bit_or, Fits, w8, w32, w64, Bor, MutBor}
+use Rattle.sequencer.specs.MainFields.{quiet}
+use Rattle.sequencer.specs.MainSequencer.{idle_of, aged_of, accepted_of, is_clearing, is_class_of_wait2, is_well_formed_of}
+use Rattle.sequencer.proofs.main_sequencer.MainSequencer.aged.Goals as goal
+
+pub returns-then-is_idle : goal.returns-then-is_idle
+unfolding aged_of
+returns-then-is_idle c = rw (c.with_state-next.ensures, ← c.is_idle.ensures, c.if-is_idle.true)
+
+pub returns-then-age-lt-AGE_LIMIT : goal.returns-then-age-lt-AGE_LIMIT
+unfolding aged_of
+returns-then-age-lt-AGE_LIMIT c =
+    rw (
+      c.with_state-next.ensures,
+      lt-ltb _ _ c.if-age-lt-AGE_LIMIT.true,
+      ← c.is_idle.ensures,
+      c.if-is_idle.false,
+    )
+
+pub returns-else-age-lt-AGE_LIMIT : goal.returns-else-age-lt-AGE_LIMIT
+unfolding aged_of
+returns-else-age-lt-AGE_LIMIT c =
+    rw (
+      c.with_state-next.ensures,
+      le-ltb _ _ c.if-age-lt-AGE_LIMIT.false,
+      ← c.is_idle.ensures,
+      c.if-is_idle.false,
+    )

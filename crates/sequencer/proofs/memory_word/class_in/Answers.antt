@@ -1,0 +1,33 @@
+-- `sequencer::memory_word::class_in` meets its contract: the tests are those of the definition, in the same order.
+-- First written by tools/prove.py. Assumes nothing.
+use Rattle.sequencer.specs.MemoryWord.{class_in_of}
+use borrow.Author.Tests.{eq-eqb, ne_eqb}
+use Rattle.std.proofs.Common.{rules, ◌≡◌, ℕ, ◌+◌, ◌-◌, ◌*◌, ◌<◌, ◌≤◌, length, ◌/◌, ◌%◌, Bool, true, false, nat_eq, nat_lt, List, [], ◌∷◌, ◌++◌, slice_index_or, slice_set, bit_and, bit_or, Fits, w8, w32, w64, Bor, MutBor}
+use Rattle.sequencer.specs.MemoryWord.{is_ok_word, class_in_of, code_in, accept_in}
+use Rattle.sequencer.proofs.memory_word.class_in.Goals as goal
+
+pub returns-then-word-eq1 : goal.returns-then-word-eq1
+unfolding class_in_of
+returns-then-word-eq1 c = rw (eq-eqb _ _ c.if-word-eq1.true)
+
+pub returns-then-word-eq1-2 : goal.returns-then-word-eq1-2
+unfolding class_in_of
+returns-then-word-eq1-2 c = rw (eq-eqb _ _ c.if-word-eq1-2.true, ne_eqb _ _ c.if-word-eq1.false)
+
+pub returns-then-word-eq1-3 : goal.returns-then-word-eq1-3
+unfolding class_in_of
+returns-then-word-eq1-3 c =
+    rw (
+      eq-eqb _ _ c.if-word-eq1-3.true,
+      ne_eqb _ _ c.if-word-eq1-2.false,
+      ne_eqb _ _ c.if-word-eq1.false,
+    )
+
+pub returns : goal.returns
+unfolding class_in_of
+returns c =
+    rw (
+      ne_eqb _ _ c.if-word-eq1-3.false,
+      ne_eqb _ _ c.if-word-eq1-2.false,
+      ne_eqb _ _ c.if-word-eq1.false,
+    )
