@@ -1,0 +1,36 @@
+-- `prescaler::Prescalers::counted_down` meets its contract: its eight counters and its mask are those of the bank, which
+-- put together are the step (`counted_by_choices`).
+-- First written by tools/prove.py. Assumes nothing.
+use mathlib.Core.List.{[], ◌∷◌}
+use Rattle.bits.specs.Bits.{tabulate}
+use Rattle.prescaler.proofs.PrescalerChoices.{counted_by_choices}
+use Rattle.std.proofs.Common.{rules, ◌≡◌, true, ◌≤◌, eqb, ℕ, ◌+◌, ◌-◌, ◌*◌, ◌<◌, length, ◌/◌, ◌%◌, Bool, false, nat_lt, List, [], ◌∷◌, ◌++◌, slice_index_or, slice_set, bit_and, bit_or, Fits, w8, w32, w64, Bor, MutBor}
+use Rattle.bits.specs.Notation.{if◌then◌else◌}
+use Rattle.prescaler.specs.Prescaler.{fresh_of, with_factor_of, factor_of, reloaded_of, fate_of, counter_after, scaled_of, step_of, all_fit_of, has_counters_within_of, has_valid_factors_of}
+use Rattle.prescaler.proofs.Prescalers.counted_down.Goals as goal
+
+pub returns : goal.returns
+unfolding tabulate
+returns c =
+    let at7 = c in
+    let at6 = at7 in
+    let at5 = at6 in
+    let at4 = at5 in
+    let at3 = at4 in
+    let at2 = at3 in
+    let at1 = at2 in
+    let at0 = at1 in
+    let a = at0.args in
+    rw c.clear.ensures
+    (counted_by_choices a.pulses a.self
+    (λ j.
+    at0.counter_after.ensures j
+    ∷ at1.counter_after-2.ensures j
+    ∷ at2.counter_after-3.ensures j
+    ∷ at3.counter_after-4.ensures j
+    ∷ at4.counter_after-5.ensures j
+    ∷ at5.counter_after-6.ensures j
+    ∷ at6.counter_after-7.ensures j
+    ∷ at7.counter_after-8.ensures j
+    ∷ [])
+    c.scaled_of-scaled.ensures)
