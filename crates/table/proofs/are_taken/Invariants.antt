@@ -14,18 +14,8 @@ use Rattle.table.specs.Shipped.{shipped_words}
 use Rattle.table.specs.Table.{is_taken_word, are_taken, over_of, table_word_of, table_of}
 use Rattle.table.proofs.are_taken.Given as goal
 
--- OLD:
--- abbrev invariant-loop : tie.invariant-loop
--- invariant-loop words i₀ i = (i ≤ 12) × ((k : ℕ) → k < i → is_taken_word (get_or words k 0) ≡ true)
-
--- OLD:
--- abbrev decreases-loop : tie.decreases-loop
--- decreases-loop words i₀ i = 12 - i
-
-
 abbrev pub invariant-loop-i : goal.invariant-loop-i
-invariant-loop-i l = ?
+invariant-loop-i l = (l.i ≤ 12) × ((k : ℕ) → k < l.i → is_taken_word (get_or l.words k 0) ≡ true)
 
--- proposed from the loop's first test
 abbrev pub decreases-loop-i : goal.decreases-loop-i
 decreases-loop-i l = 12 - l.i

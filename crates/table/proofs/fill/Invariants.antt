@@ -13,19 +13,9 @@ use Rattle.table.specs.Shipped.{shipped_words}
 use Rattle.table.specs.Table.{is_taken_word, are_taken, over_of, table_word_of, table_of}
 use Rattle.table.proofs.fill.Given as goal
 
--- OLD:
--- abbrev invariant-loop : tie.invariant-loop
--- invariant-loop memory₀ words place₀ memory place =
---     (length memory ≡ length memory₀) × ((k : ℕ) → k < place → get_or memory k 0 ≡ table_word_of words k)
-
--- OLD:
--- abbrev decreases-loop : tie.decreases-loop
--- decreases-loop memory₀ words place₀ memory place = length memory₀ - place
-
-
 abbrev pub invariant-loop-place : goal.invariant-loop-place
-invariant-loop-place l = ?
+invariant-loop-place l =
+    (length l.memory ≡ length l.initial.memory) × ((k : ℕ) → k < l.place → get_or l.memory k 0 ≡ table_word_of l.words k)
 
--- proposed from the loop's first test
 abbrev pub decreases-loop-place : goal.decreases-loop-place
 decreases-loop-place l = length l.initial.memory - l.place

@@ -13,18 +13,8 @@ use Rattle.table.specs.Shipped.{shipped_words}
 use Rattle.table.specs.Table.{is_taken_word, are_taken, over_of, table_word_of, table_of}
 use Rattle.table.proofs.word_at.Given as goal
 
--- OLD:
--- abbrev invariant-loop : tie.invariant-loop
--- invariant-loop place words word₀ i₀ word i = (i ≤ 12) × (word < 65536) × (word ≡ gathered_from i (12 - i) words place)
-
--- OLD:
--- abbrev decreases-loop : tie.decreases-loop
--- decreases-loop place words word₀ i₀ word i = i
-
-
 abbrev pub invariant-loop-i : goal.invariant-loop-i
-invariant-loop-i l = ?
+invariant-loop-i l = (l.i ≤ 12) × (l.word < 65536) × (l.word ≡ gathered_from l.i (12 - l.i) l.words l.place)
 
--- proposed from the loop's first test
 abbrev pub decreases-loop-i : goal.decreases-loop-i
 decreases-loop-i l = l.i

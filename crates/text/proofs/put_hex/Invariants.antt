@@ -12,19 +12,9 @@ use Rattle.text.specs.Text.{is_digit_of, digit_of, hex_digit, hex}
 use Rattle.text.specs.Page.{page, write, write_byte}
 use Rattle.text.proofs.put_hex.Given as goal
 
--- OLD:
--- abbrev invariant-loop : tie.invariant-loop
--- invariant-loop out₀ at digits v left₀ place₀ out left place =
---     (left ≤ digits) × (length out ≡ length out₀) × (write (hex left v) (page out place) ≡ write (hex digits v) (page out₀ at))
-
--- OLD:
--- abbrev decreases-loop : tie.decreases-loop
--- decreases-loop out₀ at digits v left₀ place₀ out left place = left
-
-
 abbrev pub invariant-loop-left : goal.invariant-loop-left
-invariant-loop-left l = ?
+invariant-loop-left l =
+    (l.left ≤ l.digits) × (length l.out ≡ length l.initial.out) × (write (hex l.left l.v) (page l.out l.place) ≡ write (hex l.digits l.v) (page l.initial.out l.at))
 
--- proposed from the loop's first test
 abbrev pub decreases-loop-left : goal.decreases-loop-left
 decreases-loop-left l = l.left

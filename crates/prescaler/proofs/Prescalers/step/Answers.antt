@@ -11,10 +11,10 @@ use Rattle.prescaler.proofs.Prescalers.step.Goals as goal
 pub returns-then-not-runs : goal.returns-then-not-runs
 returns-then-not-runs c =
     let a = c.args in
-    rw (not-true a.runs c.if-not-runs.true) (stopped_by_choices a.pulses a.self (search rules))
+    rw (c.if-not-runs.true) (stopped_by_choices a.pulses a.self (search rules))
 
 pub returns-then-pulses-eq0 : goal.returns-then-pulses-eq0
 returns-then-pulses-eq0 c =
     let a = c.args in
-    rw (not-false a.runs c.if-not-runs.false)
+    rw (c.if-not-runs.false)
     (passed_by_choices a.pulses a.self c.if-pulses-eq0.true (search rules))

@@ -1,0 +1,25 @@
+-- `branches::Readout::is_quiet` meets its contract: its four tests are the test of every branch (`every_of_four`).
+-- Written by tools/prove.py; the answers to `returns` were written by hand. Assumes nothing.
+use Rattle.branches.specs.Readout.{is_quiet_of}
+use lib.ListN.{length}
+use Rattle.branch.specs.Branch as branch
+use Rattle.branches.specs.ReadoutFields.{branch_at}
+use Rattle.branches.proofs.ReadoutChoices.{four_from, every_of_four}
+use Rattle.std.proofs.Common.{rules, ◌≡◌, length, ℕ, ◌+◌, ◌-◌, ◌*◌, ◌<◌, ◌≤◌, ◌/◌, ◌%◌, Bool, true, false, nat_eq, nat_lt, List, [], ◌∷◌, ◌++◌, slice_index_or, slice_set, bit_and, bit_or, Fits, w8, w32, w64, Bor, MutBor}
+use Rattle.branches.specs.Readout.{module_branches, fresh_of, emptied_of, is_empty_of, has_room_of, is_quiet_of, side_after_of, gathered_of, silent_of, step_of, is_sound_branch_of, is_well_formed_of}
+use Rattle.bits.specs.Notation.{if◌then◌else◌}
+use Rattle.branch.specs.Branch.{queue_depth}
+use Rattle.branches.proofs.Readout.is_quiet.Goals as goal
+
+pub returns : goal.returns
+unfolding is_quiet_of
+returns c =
+    let start = c in
+    let four = start.well_formed.0.1.1.0.1.0.1 in
+    let bs = start.args.self.branches in
+    rw (
+      c.is_quiet-4.ensures,
+      c.is_quiet-3.ensures,
+      c.is_quiet-2.ensures,
+      c.is_quiet.ensures,
+    ) (every_of_four (length bs) (λ k. branch.is_quiet_of (branch_at bs k)) four)

@@ -1,0 +1,38 @@
+-- `branches::Readout::is_well_formed` meets its contract: quiet branches are told by their places (`quiet_is_well_formed`); else each is tested (`every_of_four`).
+-- Written by tools/prove.py; the answers to `returns` were written by hand. Assumes nothing.
+use Rattle.branches.specs.Readout.{is_well_formed_of}
+use mathlib.Core.Path.{sym, ◌∙◌}
+use lib.Dec.{eqb}
+use lib.ListN.{length}
+use Rattle.branches.specs.Readout.{is_sound_branch_of}
+use Rattle.branches.specs.ReadoutFields.{branch_at}
+use Rattle.branches.proofs.ReadoutChoices.{four_from, every_of_four, quiet_is_well_formed}
+use Rattle.std.proofs.Common.{rules, ◌≡◌, length, ℕ, ◌+◌, ◌-◌, ◌*◌, ◌<◌, ◌≤◌, ◌/◌, ◌%◌, Bool, true, false, nat_eq, nat_lt, List, [], ◌∷◌, ◌++◌, slice_index_or, slice_set, bit_and, bit_or, Fits, w8, w32, w64, Bor, MutBor}
+use Rattle.branches.specs.Readout.{module_branches, fresh_of, emptied_of, is_empty_of, has_room_of, is_quiet_of, side_after_of, gathered_of, silent_of, step_of, is_sound_branch_of, is_well_formed_of}
+use Rattle.bits.specs.Notation.{if◌then◌else◌}
+use Rattle.branch.specs.Branch.{queue_depth}
+use Rattle.branches.proofs.Readout.is_well_formed.Goals as goal
+
+pub returns-then-is_quiet : goal.returns-then-is_quiet
+returns-then-is_quiet c =
+    let tested = c in
+    let start = tested in
+    let four = start.well_formed.0.1.1.0.1.0.1 in
+    let a = start.args in
+    let bs = a.self.branches in
+    let quiet = sym tested.is_quiet.ensures ∙ tested.if-is_quiet.true in
+    every_of_four (length bs) (λ k. eqb (branch_at bs k).words 0) four ∙ quiet_is_well_formed a.eight bs quiet
+
+pub returns : goal.returns
+unfolding is_well_formed_of
+returns c =
+    let start = c in
+    let four = start.well_formed.0.1.1.0.1.0.1 in
+    let a = start.args in
+    let bs = a.self.branches in
+    rw (
+      c.is_sound_branch-4.ensures,
+      c.is_sound_branch-3.ensures,
+      c.is_sound_branch-2.ensures,
+      c.is_sound_branch.ensures,
+    ) (every_of_four (length bs) (λ k. is_sound_branch_of a.eight (branch_at bs k)) four)

@@ -1,0 +1,18 @@
+-- `branches::Readout::standing` meets its contract: its four sides are those of the list (`standing_of_four`).
+-- First written by tools/prove.py. Assumes nothing.
+use Rattle.branches.proofs.ReadoutChoices.{four_from, standing_of_four}
+use Rattle.std.proofs.Common.{rules, ◌≡◌, ℕ, ◌+◌, ◌-◌, ◌*◌, ◌<◌, ◌≤◌, length, ◌/◌, ◌%◌, Bool, true, false, nat_eq, nat_lt, List, [], ◌∷◌, ◌++◌, slice_index_or, slice_set, bit_and, bit_or, Fits, w8, w32, w64, Bor, MutBor}
+use Rattle.branches.specs.Readout.{standing_side_of, standing_of}
+use Rattle.branches.proofs.Readout.standing.Goals as goal
+
+pub returns : goal.returns
+returns c =
+    let start = c in
+    let bs = start.args.self.branches in
+    let four = start.well_formed.0.1.1.0.1.0.1 in
+    rw (
+      c.standing_side-4.ensures,
+      c.standing_side-3.ensures,
+      c.standing_side-2.ensures,
+      c.standing_side.ensures,
+    ) (standing_of_four bs four)

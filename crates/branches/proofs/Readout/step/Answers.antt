@@ -1,0 +1,24 @@
+-- `branches::Readout::step` meets its contract: a quiet readout with nothing to load stays (`quiet_is_silent`); any other is stepped.
+-- Written by tools/prove.py; the answers to `returns` were written by hand. Assumes nothing.
+use mathlib.Core.Path.{◌≡◌, sym, ◌∙◌}
+use mathlib.Core.Bool.{Bool, true, not, ◌&&◌}
+use borrow.Author.Tests.{not-true}
+use Rattle.bits.proofs.TestLaws.{and_left, and_right}
+use Rattle.branches.proofs.ReadoutChoices.{four_from, quiet_is_silent}
+use Rattle.std.proofs.Common.{rules, ◌≡◌, length, ℕ, ◌+◌, ◌-◌, ◌*◌, ◌<◌, ◌≤◌, ◌/◌, ◌%◌, Bool, true, false, nat_eq, nat_lt, List, [], ◌∷◌, ◌++◌, slice_index_or, slice_set, bit_and, bit_or, Fits, w8, w32, w64, Bor, MutBor}
+use Rattle.branches.specs.Readout.{module_branches, fresh_of, emptied_of, is_empty_of, has_room_of, is_quiet_of, side_after_of, gathered_of, silent_of, step_of, is_sound_branch_of, is_well_formed_of}
+use Rattle.bits.specs.Notation.{if◌then◌else◌}
+use Rattle.branch.specs.Branch.{queue_depth}
+use Rattle.branches.proofs.Readout.step.Goals as goal
+
+pub returns-then-is_quiet-is_word : goal.returns-then-is_quiet-is_word
+returns-then-is_quiet-is_word c =
+    let start = c in
+    let four = start.well_formed.0.1.1.0.1.0.1 in
+    let a = start.args in
+    let quiet : Bool = c.is_quiet.result in
+    let word : Bool = c.is_word.result in
+    let test : (quiet && not word) ≡ true = c.if-is_quiet-is_word.true in
+    let isQuiet = sym c.is_quiet.ensures ∙ and_left quiet (not word) test in
+    let no_word = sym c.is_word.ensures ∙ not-true word (and_right quiet (not word) test) in
+    c.silent.ensures ∙ quiet_is_silent a.acks a.load a.self four isQuiet no_word
