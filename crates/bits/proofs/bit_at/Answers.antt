@@ -4,10 +4,7 @@ use Prim.Native.Nat.{◌^◌}
 use mathlib.Core.Path.{sym}
 use borrow.Author.Tests.{lt-ltb}
 use Rattle.bits.proofs.WidthLaws.{fits_iff_no_bit_outside}
-use Rattle.std.proofs.Common.{rules, ◌≡◌, false, ◌≤◌, ◌<◌, get_or, ℕ, ◌+◌, ◌-◌, ◌*◌, length, ◌/◌, ◌%◌, Bool, true, nat_eq, nat_lt, List, [], ◌∷◌, ◌++◌, slice_set, bit_and, bit_or, Fits, w8, w32, w64, Bor, MutBor}
-use Rattle.bits.specs.Notation.{if◌then◌else◌}
-use Rattle.bits.specs.Bits.{bit_at, one_if_of, mask_of, set_of, clear_of, has_only}
-use Rattle.bits.specs.Bytes.{bytes_of}
+use Rattle.std.proofs.Common.{rules}
 use Rattle.bits.proofs.bit_at.Goals as goal
 
 pub returns : goal.returns

@@ -2,11 +2,7 @@
 -- First written by tools/prove.py. Assumes nothing.
 use native.Mathlib.Nat.{div-one}
 use Rattle.bits.specs.Bits.{tabulate}
-use Rattle.bits.proofs.BytesLaws.{shift_is_byte, masked_fits}
-use Rattle.std.proofs.Common.{rules, ◌≡◌, false, ◌≤◌, ◌<◌, get_or, ℕ, ◌+◌, ◌-◌, ◌*◌, length, ◌/◌, ◌%◌, Bool, true, nat_eq, nat_lt, List, [], ◌∷◌, ◌++◌, slice_set, bit_and, bit_or, Fits, w8, w32, w64, Bor, MutBor}
-use Rattle.bits.specs.Notation.{if◌then◌else◌}
-use Rattle.bits.specs.Bits.{bit_at, one_if_of, mask_of, set_of, clear_of, has_only}
-use Rattle.bits.specs.Bytes.{bytes_of}
+use Rattle.bits.proofs.BytesLaws.{shift_is_byte}
 use Rattle.bits.proofs.bytes.Goals as goal
 
 pub returns : goal.returns

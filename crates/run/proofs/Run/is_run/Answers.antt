@@ -3,9 +3,7 @@
 use mathlib.Core.Path.{sym}
 use Rattle.run.specs.Run.{is_run_of}
 use Rattle.run.proofs.RunLaws.{rest_is_within, past_is_no_run}
-use Rattle.std.proofs.Common.{rules, ◌≡◌, ℕ, ◌+◌, ◌-◌, ◌*◌, ◌<◌, ◌≤◌, length, ◌/◌, ◌%◌, Bool, true, false, nat_eq, nat_lt, List, [], ◌∷◌, ◌++◌, slice_index_or, slice_set, bit_and, bit_or, Fits, w8, w32, w64, Bor, MutBor}
-use Rattle.bits.specs.Notation.{if◌then◌else◌}
-use Rattle.run.specs.Run.{whole, is_whole_of, is_run_of, holds_byte, has_byte3, byte_mask_of, overlaid_of, cut_of}
+use Rattle.run.specs.Run.{is_run_of}
 use Rattle.run.proofs.Run.is_run.Goals as goal
 
 pub returns-then-self-lt-BYTES : goal.returns-then-self-lt-BYTES

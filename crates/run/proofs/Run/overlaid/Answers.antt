@@ -2,9 +2,8 @@
 -- First written by tools/prove.py. Assumes nothing.
 use Rattle.run.specs.Run.{overlaid_of}
 use Rattle.run.proofs.RunLaws.{set_is_overlaid}
-use Rattle.std.proofs.Common.{rules, ◌≡◌, ℕ, ◌+◌, ◌-◌, ◌*◌, ◌<◌, ◌≤◌, length, ◌/◌, ◌%◌, Bool, true, false, nat_eq, nat_lt, List, [], ◌∷◌, ◌++◌, slice_index_or, slice_set, bit_and, bit_or, Fits, w8, w32, w64, Bor, MutBor}
-use Rattle.bits.specs.Notation.{if◌then◌else◌}
-use Rattle.run.specs.Run.{whole, is_whole_of, is_run_of, holds_byte, has_byte3, byte_mask_of, overlaid_of, cut_of}
+use Rattle.std.proofs.Common.{rules}
+use Rattle.run.specs.Run.{overlaid_of}
 use Rattle.run.proofs.Run.overlaid.Goals as goal
 
 pub returns-then-is_whole : goal.returns-then-is_whole

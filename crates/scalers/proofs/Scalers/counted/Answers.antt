@@ -4,8 +4,8 @@
 use Rattle.std.proofs.Common.{sym, ◌∙◌, rules}
 use Rattle.scalers.specs.Scalers.{counted_of}
 use Rattle.scalers.proofs.ScalersLaws.{counted_none}
-use Rattle.std.proofs.Common.{rules, ◌≡◌, ℕ, ◌+◌, ◌-◌, ◌*◌, ◌<◌, ◌≤◌, length, ◌/◌, ◌%◌, Bool, true, false, nat_eq, nat_lt, List, [], ◌∷◌, ◌++◌, slice_index_or, slice_set, bit_and, bit_or, Fits, w8, w32, w64, Bor, MutBor}
-use Rattle.scalers.specs.Scalers.{fresh_of, zeroed_of, latched_of, latch_of, reset_of, is_some, is_none_of, counts_of, add_of, counted_of}
+use Rattle.std.proofs.Common.{rules}
+use Rattle.scalers.specs.Scalers.{counted_of}
 use Rattle.scalers.proofs.Scalers.counted.Goals as goal
 
 pub returns-then-is_none : goal.returns-then-is_none

@@ -1,10 +1,9 @@
 -- `scalers::Signals::counts` meets its contract: the codes are tested as the definition tests them, in the same order.
 -- First written by tools/prove.py. Assumes nothing.
 use Rattle.scalers.specs.Scalers.{counts_of}
-use Rattle.std.proofs.Common.{rules, le-ltb, lt-ltb, eq-eqb, ne_eqb, le-leb}
+use Rattle.std.proofs.Common.{le-ltb, lt-ltb, eq-eqb, ne_eqb, le-leb}
 use borrow.Author.Tests.{lt-leb}
-use Rattle.std.proofs.Common.{rules, ◌≡◌, ℕ, ◌+◌, ◌-◌, ◌*◌, ◌<◌, ◌≤◌, length, ◌/◌, ◌%◌, Bool, true, false, nat_eq, nat_lt, List, [], ◌∷◌, ◌++◌, slice_index_or, slice_set, bit_and, bit_or, Fits, w8, w32, w64, Bor, MutBor}
-use Rattle.scalers.specs.Scalers.{fresh_of, zeroed_of, latched_of, latch_of, reset_of, is_some, is_none_of, counts_of, add_of, counted_of}
+use Rattle.scalers.specs.Scalers.{counts_of}
 use Rattle.scalers.proofs.Signals.counts.Goals as goal
 
 pub returns-then-code-eq0 : goal.returns-then-code-eq0

@@ -2,8 +2,7 @@
 -- First written by tools/prove.py. Assumes nothing.
 use Rattle.sequencer.specs.MemoryWord.{class_in_of}
 use borrow.Author.Tests.{eq-eqb, ne_eqb}
-use Rattle.std.proofs.Common.{rules, ◌≡◌, ℕ, ◌+◌, ◌-◌, ◌*◌, ◌<◌, ◌≤◌, length, ◌/◌, ◌%◌, Bool, true, false, nat_eq, nat_lt, List, [], ◌∷◌, ◌++◌, slice_index_or, slice_set, bit_and, bit_or, Fits, w8, w32, w64, Bor, MutBor}
-use Rattle.sequencer.specs.MemoryWord.{is_ok_word, class_in_of, code_in, accept_in}
+use Rattle.sequencer.specs.MemoryWord.{class_in_of}
 use Rattle.sequencer.proofs.memory_word.class_in.Goals as goal
 
 pub returns-then-word-eq1 : goal.returns-then-word-eq1

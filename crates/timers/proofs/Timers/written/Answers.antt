@@ -2,8 +2,7 @@
 -- First written by tools/prove.py. Assumes nothing.
 use Rattle.timers.specs.Timers.{written_of}
 use borrow.Author.Tests.{eq-eqb, ne_eqb}
-use Rattle.std.proofs.Common.{rules, ◌≡◌, ℕ, ◌+◌, ◌-◌, ◌*◌, ◌<◌, ◌≤◌, length, ◌/◌, ◌%◌, Bool, true, false, nat_eq, nat_lt, List, [], ◌∷◌, ◌++◌, slice_index_or, slice_set, bit_and, bit_or, Fits, w8, w32, w64, Bor, MutBor}
-use Rattle.timers.specs.Timers.{count40_ticks_of, count20_ticks_of, fresh_of, is_reached, written_of, stored_of, is_late_due, front_test_of, clear_count_of}
+use Rattle.timers.specs.Timers.{written_of}
 use Rattle.timers.proofs.Timers.written.Goals as goal
 
 pub returns-then-n-eq1 : goal.returns-then-n-eq1

@@ -4,8 +4,7 @@
 use mathlib.Core.Path.{sym, ap, ◌∙◌}
 use mathlib.Core.Bool.{Bool, not, ◌||◌}
 use Rattle.registers.proofs.ControlLaws.{counted_when_open, counted_when_shut}
-use Rattle.std.proofs.Common.{rules, ◌≡◌, ℕ, ◌+◌, ◌-◌, ◌*◌, ◌<◌, ◌≤◌, length, ◌/◌, ◌%◌, Bool, true, false, nat_eq, nat_lt, List, [], ◌∷◌, ◌++◌, slice_index_or, slice_set, bit_and, bit_or, Fits, w8, w32, w64, Bor, MutBor}
-use Rattle.registers.specs.Control.{fresh_of, is_strobe_mode, opens_prescales, counted_of, enabled_of}
+use Rattle.std.proofs.Common.{Bool}
 use Rattle.registers.proofs.control.Control.counted.Goals as goal
 
 pub returns-then-is_strobe_mode-strobe : goal.returns-then-is_strobe_mode-strobe

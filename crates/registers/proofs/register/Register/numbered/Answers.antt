@@ -8,8 +8,8 @@ use native.Mathlib.Omega.{arith}
 use Rattle.registers.specs.declared.register.Setting.TheVariants.{Factor, Timer}
 use Rattle.registers.specs.declared.register.Register.TheVariants.{Setting}
 use borrow.Author.Tests.{eq-eqb, le-ltb, lt-ltb, ne_eqb}
-use Rattle.std.proofs.Common.{rules, ◌≡◌, ℕ, ◌+◌, ◌-◌, ◌*◌, ◌<◌, ◌≤◌, length, ◌/◌, ◌%◌, Bool, true, false, nat_eq, nat_lt, List, [], ◌∷◌, ◌++◌, slice_index_or, slice_set, bit_and, bit_or, Fits, w8, w32, w64, Bor, MutBor}
-use Rattle.registers.specs.Registers.{numbered_of, is_valid_csr_value, is_valid_control, is_valid_factor, is_valid_interval, is_valid_timer, is_valid_assign, is_valid_setting, is_valid_test, is_valid_value, is_control, facts, facts_of}
+use Rattle.std.proofs.Common.{ℕ}
+use Rattle.registers.specs.Registers.{numbered_of}
 use Rattle.registers.proofs.register.Register.numbered.Goals as goal
 
 pub returns-then-number-eq-CSR : goal.returns-then-number-eq-CSR

@@ -2,9 +2,7 @@
 -- First written by tools/prove.py. Assumes nothing.
 use Rattle.sequencer.specs.MainSequencer.{aged_of}
 use borrow.Author.Tests.{le-ltb, lt-ltb}
-use Rattle.std.proofs.Common.{rules, ◌≡◌, ℕ, ◌+◌, ◌-◌, ◌*◌, ◌<◌, ◌≤◌, length, ◌/◌, ◌%◌, Bool, true, false, nat_eq, nat_lt, List, [], ◌∷◌, ◌++◌, slice_index_or, slice_set, bit_and, bit_or, Fits, w8, w32, w64, Bor, MutBor}
-use Rattle.sequencer.specs.MainFields.{quiet}
-use Rattle.sequencer.specs.MainSequencer.{idle_of, aged_of, accepted_of, is_clearing, is_class_of_wait2, is_well_formed_of}
+use Rattle.sequencer.specs.MainSequencer.{aged_of}
 use Rattle.sequencer.proofs.main_sequencer.MainSequencer.aged.Goals as goal
 
 pub returns-then-is_idle : goal.returns-then-is_idle

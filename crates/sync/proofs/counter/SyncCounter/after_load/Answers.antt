@@ -2,8 +2,7 @@
 -- First written by tools/prove.py. Assumes nothing.
 use Rattle.sync.specs.SyncCounter.{after_load_of}
 use borrow.Author.Tests.{le-leb, lt-leb}
-use Rattle.std.proofs.Common.{rules, ◌≡◌, ℕ, ◌+◌, ◌-◌, ◌*◌, ◌<◌, ◌≤◌, length, ◌/◌, ◌%◌, Bool, true, false, nat_eq, nat_lt, List, [], ◌∷◌, ◌++◌, slice_index_or, slice_set, bit_and, bit_or, Fits, w8, w32, w64, Bor, MutBor}
-use Rattle.sync.specs.SyncCounter.{fresh_of, is_due, after_load_of, zeroed_of, is_within}
+use Rattle.sync.specs.SyncCounter.{after_load_of}
 use Rattle.sync.proofs.counter.SyncCounter.after_load.Goals as goal
 
 pub returns-then-interval-next : goal.returns-then-interval-next
