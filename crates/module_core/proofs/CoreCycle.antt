@@ -4,7 +4,7 @@
 --     main_accepts, main_goes_on   with an accepted pattern and without, for `main_step`
 --     quiet_is_quiet    the mark is right, for `step`
 -- Assumes nothing.
-use Rattle.module_core.specs.Prelude.{◌≡◌, ℕ, Bool, true, false, cond, not, ◌||◌, eqb, ltb}
+use Rattle.std.specs.Prelude.{◌≡◌, ℕ, Bool, true, false, cond, not, ◌||◌, eqb, ltb}
 use mathlib.Core.Path.{refl, sym, ap, subst, ◌∙◌}
 use mathlib.Core.Bool.{false≢true}
 use Rattle.bits.proofs.TestLaws.{by_cond}

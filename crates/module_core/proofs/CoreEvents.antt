@@ -4,7 +4,7 @@
 --     event_step_balances    accepted events are cleared, loaded or undecided
 --     undecided_follows      the account's rule of the undecided event follows main's state
 -- Assumes nothing.
-use Rattle.module_core.specs.Prelude.{◌≡◌, ℕ, ◌+◌, Bool, true, false, not, ◌&&◌, ◌||◌}
+use Rattle.std.specs.Prelude.{◌≡◌, ℕ, ◌+◌, Bool, true, false, not, ◌&&◌, ◌||◌}
 use mathlib.Core.Path.{refl, sym}
 use mathlib.Core.Bool.{true≢false}
 use native.Mathlib.Omega.{arith}

@@ -4,7 +4,7 @@
 --     settled_still           settled by moves that are none, the core is what such a tick leaves
 --     stays_idle_by_choices   where main is at Idle, nothing passed and there is no user sync, that is the step
 -- Assumes nothing.
-use Rattle.module_core.specs.Prelude.{◌≡◌, ℕ, ◌^◌, ◌<◌, Bool, true, false, not, ◌&&◌, ◌||◌, eqb, List}
+use Rattle.std.specs.Prelude.{◌≡◌, ℕ, ◌^◌, ◌<◌, Bool, true, false, not, ◌&&◌, ◌||◌, eqb, List}
 use mathlib.Core.Path.{refl, sym, ap, ◌∙◌}
 use mathlib.Core.Bool.{true≢false}
 use borrow.Author.Tests.{not-true, eqb-true}

@@ -10,7 +10,7 @@
 --     is_load                                   an event or a tag
 --     tag-, event_loads_below_eight            a word is loaded only where no queue may hold eight
 -- Assumes nothing.
-use Rattle.module_core.specs.Prelude.{◌≡◌, ℕ, ◌+◌, Bool, true, false, cond, not, ◌&&◌, ◌||◌, eqb, leb, List, ◌++◌}
+use Rattle.std.specs.Prelude.{◌≡◌, ℕ, ◌+◌, Bool, true, false, cond, not, ◌&&◌, ◌||◌, eqb, leb, List, ◌++◌}
 use mathlib.Core.Path.{refl, sym, ap, ap₂, ◌∙◌}
 use mathlib.Core.Bool.{true≢false, false≢true}
 use lib.Dec.{lit<}

@@ -5,7 +5,7 @@
 --     cycled_of, main_cycled_of   the step of main with that mark, in a cycle, and of a tick
 -- Own rules of 01 used here: none. Decisions: F30. Left out: nothing.
 -- Assumes nothing.
-use Rattle.module_core.specs.Prelude.{ℕ, Bool, true, not, ◌||◌}
+use Rattle.std.specs.Prelude.{ℕ, Bool, true, not, ◌||◌}
 use Rattle.sequencer.specs.MainSequencer.{aged_of}
 use Rattle.sequencer.specs.declared.states.State.{State}
 use Rattle.sequencer.specs.declared.states.State.TheVariants.{Idle, Delay, Wait2, Wait3}

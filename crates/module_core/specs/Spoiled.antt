@@ -5,7 +5,7 @@
 -- What is kept of the latest tick, and the acknowledges, spoil nothing.
 -- Own rules of 01 used here: none. Decisions: A2, R6, F4. Left out: the branches' clauses, in branches.
 -- Assumes nothing.
-use Rattle.module_core.specs.Prelude.{Bool, not, ◌||◌, List, [], ◌∷◌, ◌++◌}
+use Rattle.std.specs.Prelude.{Bool, not, ◌||◌, List, [], ◌∷◌, ◌++◌}
 use Rattle.bits.specs.Bits.{all_true}
 use Rattle.registers.specs.Csr as csr
 use Rattle.registers.specs.Registers.{is_valid_control, is_valid_assign}

@@ -6,7 +6,7 @@
 -- That it is the step of Core is proved (stays_idle_by_choices).
 -- Own rules of 01 used here: none. Decisions: F29. Left out: nothing.
 -- Assumes nothing.
-use Rattle.module_core.specs.Prelude.{ℕ, Bool, false, not, ◌&&◌, ◌||◌, ◌==◌}
+use Rattle.std.specs.Prelude.{ℕ, Bool, false, not, ◌&&◌, ◌||◌, ◌==◌}
 use Rattle.bits.specs.Notation.{◌▷◌}
 use Rattle.registers.specs.Csr as csr
 use Rattle.prescaler.specs.declared.Prescaled.{Prescaled}

@@ -1,6 +1,6 @@
 // The step of main in a tick (document 01, "The tick", Main). Each state asks for the tests by itself, so that a compiler makes
 // none but those that the state reads. The definitions are in specs/Core.antt and specs/QuietStep.antt.
-ghost use Rattle.module_core.specs.Prelude.{◌≡◌};
+ghost use Rattle.std.specs.Prelude.{◌≡◌};
 ghost use Rattle.module_core.specs.Core.{tests_of};
 ghost use Rattle.module_core.specs.QuietStep.{cycled_of, main_cycled_of};
 

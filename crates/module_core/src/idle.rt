@@ -1,6 +1,6 @@
 // A tick in which no sequencer moves, and one in which main's step reports nothing (document 01, "The tick"; document 02, N1, N2,
 // N5): most ticks are, and less of the core changes in them. The definitions are in specs/StaysIdle.antt and specs/Core.antt.
-ghost use Rattle.module_core.specs.Prelude.{◌≡◌};
+ghost use Rattle.std.specs.Prelude.{◌≡◌};
 ghost use Rattle.sync.specs.UserSync.{step_by, stays};
 ghost use Rattle.sequencer.specs.MainFields.{quiet};
 ghost use Rattle.module_core.specs.Core.{settled_of};

@@ -3,7 +3,7 @@
 // spoiled rule is in spoiled, main's step in cycle, the shorter ways of a tick in idle, the same core built anew in rebuilt.
 #![tactic(auto)]
 
-ghost use Rattle.module_core.specs.Prelude.{◌≡◌};
+ghost use Rattle.std.specs.Prelude.{◌≡◌};
 ghost use Rattle.module_core.specs.Core.{fresh_of, reset_of, pulsed_of, is_open_of, is_ready_of};
 ghost use Rattle.module_core.specs.Core.{settled_of, latched_of, step_of, lines_out_of, is_active_of};
 

@@ -1,5 +1,5 @@
 // The same core, field by field: the bytes between its fields are not copied, which saves time.
-ghost use Rattle.module_core.specs.Prelude.{◌≡◌};
+ghost use Rattle.std.specs.Prelude.{◌≡◌};
 
 use crate::Core;
 use sequencer::main_sequencer::MainSequencer;

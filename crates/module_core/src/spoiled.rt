@@ -1,5 +1,5 @@
 // The spoiled rule on the core (document 01, "When a call is declined", Spoiled). The definitions are in specs/Spoiled.antt.
-ghost use Rattle.module_core.specs.Prelude.{◌≡◌};
+ghost use Rattle.std.specs.Prelude.{◌≡◌};
 ghost use Rattle.module_core.specs.Spoiled.{allows_eight_of, is_sound_of};
 
 use crate::Core;

@@ -1,7 +1,7 @@
 -- `pace::run_ticks` is safe and ends: i stays at most n, and the ticks that are left become fewer.
 -- Written by hand over the lines that `rt dev` prints. Assumes nothing.
 use borrow.Author.Rules.{rules}
-use Rattle.module_core.specs.Prelude.{◌-◌, ◌≤◌}
+use Rattle.std.specs.Prelude.{◌-◌, ◌≤◌}
 use Rattle.pace.proofs.run_ticks.Statement.{statement}
 use Rattle.pace.proofs.run_ticks.Tie as tie
 

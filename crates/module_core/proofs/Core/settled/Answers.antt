@@ -1,0 +1,25 @@
+-- `module_core::Core::settled` meets its contract: each field as its call ensures; of the sync counter the count alone
+-- is set (`sync_after_by_count`).
+-- First written by tools/prove.py. Assumes nothing.
+use Rattle.module_core.specs.Core.{settled_of}
+use Rattle.trigger.proofs.EffectsLaws.{sync_after_by_count}
+use Rattle.std.proofs.Common.{rules, ◌≡◌, ℕ, ◌+◌, ◌-◌, ◌*◌, ◌<◌, ◌≤◌, length, ◌/◌, ◌%◌, Bool, true, false, nat_eq, nat_lt, List, [], ◌∷◌, ◌++◌, slice_index_or, slice_set, bit_and, bit_or, Fits, w8, w32, w64, Bor, MutBor}
+use Rattle.module_core.specs.Core.{fresh_of, reset_of, pulsed_of, is_open_of, is_ready_of, settled_of, latched_of, step_of, lines_out_of, is_active_of}
+use Rattle.module_core.proofs.Core.settled.Goals as goal
+
+pub returns : goal.returns
+unfolding settled_of
+returns c =
+    rw (
+      c.outcome_of.ensures,
+      c.masks_of.ensures,
+      c.kept-next.ensures,
+      c.after-next.ensures,
+      c.counted-next.ensures,
+      c.signals_of.ensures,
+      c.fresh-next.ensures,
+      c.csr_after-next.ensures,
+      c.count_after-count.ensures,
+      c.enables_sync.ensures,
+      sync_after_by_count _ _ _ _,
+    )

@@ -1,0 +1,62 @@
+-- `module_core::Core::step` meets its contract: where no sequencer moves, what is left of a tick (`stays_idle_by_choices`); else each
+-- part, given the record at the tick's start, settled (`step_by_latched`), where main's step is quiet and there is no user sync
+-- by the shorter way (`quiet_is_quiet`, `user_stays`).
+-- First written by tools/prove.py; `widths` are those of the scalers, the fifth field. Assumes nothing.
+use mathlib.Core.Path.{sym, ◌∙◌}
+use Rattle.bits.proofs.TestLaws.{and_left, and_right}
+use Rattle.module_core.proofs.CoreParts.{step_by_latched}
+use Rattle.module_core.proofs.CoreCycle.{quiet_is_quiet}
+use Rattle.module_core.proofs.CoreIdle.{stays_idle_by_choices, user_stays}
+use borrow.Author.Tests.{not-true}
+use Rattle.std.proofs.Common.{rules, ◌≡◌, ℕ, ◌+◌, ◌-◌, ◌*◌, ◌<◌, ◌≤◌, length, ◌/◌, ◌%◌, Bool, true, false, nat_eq, nat_lt, List, [], ◌∷◌, ◌++◌, slice_index_or, slice_set, bit_and, bit_or, Fits, w8, w32, w64, Bor, MutBor}
+use Rattle.module_core.specs.Core.{fresh_of, reset_of, pulsed_of, is_open_of, is_ready_of, settled_of, latched_of, step_of, lines_out_of, is_active_of}
+use Rattle.module_core.proofs.Core.step.Goals as goal
+
+pub returns-then-stays_idle : goal.returns-then-stays_idle
+returns-then-stays_idle c =
+    let start = c in
+    let a = start.args in
+    let stays = sym c.stays_idle.ensures ∙ c.if-stays_idle.true in
+    let widths = start.well_formed.0.1.1.1.1.1.1.0.1.1 in
+    rw c.stayed_idle.ensures
+    (stays_idle_by_choices a.self widths.0.1 widths.1.0.1 a.room a.empty a.x _ _
+    c.pulsed-p.ensures stays)
+
+pub returns-then-c-has_user_sync : goal.returns-then-c-has_user_sync
+returns-then-c-has_user_sync c =
+    let at-main = c in
+    let at-latch = at-main in
+    let at-pulses = at-latch in
+    let a = at-pulses.args in
+    let taken = c.if-c-has_user_sync.true in
+    let is-marked = and_left at-main.main_step-c.result.quiet _ taken in
+    let l = at-latch.latched-l.result in
+    let is-quiet =
+    quiet_is_quiet a.room a.empty a.x.lines a.self l.latch l.word at-main.main_step-c.ensures is-marked in
+    let no_sync = sym c.has_user_sync.ensures ∙ not-true _ (and_right at-main.main_step-c.result.quiet _ taken) in
+    rw (
+      c.settled_quietly.ensures,
+      at-main.main_step-c.ensures,
+      ← is-quiet,
+      ← user_stays a.empty a.self no_sync,
+      at-latch.latched-l.ensures,
+      at-pulses.pulsed-p.ensures,
+    )
+    (step_by_latched a.room a.empty a.x _ a.self)
+
+pub returns : goal.returns
+returns c =
+    let at-main = c in
+    let at-latch = at-main in
+    let at-pulses = at-latch in
+    let a = at-pulses.args in
+    rw (
+      c.settled.ensures,
+      c.step-u.ensures,
+      c.is_idle.ensures,
+      c.wants_user_sync.ensures,
+      at-main.main_step-c.ensures,
+      at-latch.latched-l.ensures,
+      at-pulses.pulsed-p.ensures,
+    )
+    (step_by_latched a.room a.empty a.x _ a.self)

@@ -1,0 +1,28 @@
+-- `module_core::Core::tests` meets its contract: the literal is the definition, each test as its call ensures.
+-- First written by tools/prove.py. Assumes nothing.
+use Rattle.module_core.specs.Core.{tests_of}
+use Rattle.std.proofs.Common.{rules, ◌≡◌, ℕ, ◌+◌, ◌-◌, ◌*◌, ◌<◌, ◌≤◌, length, ◌/◌, ◌%◌, Bool, true, false, nat_eq, nat_lt, List, [], ◌∷◌, ◌++◌, slice_index_or, slice_set, bit_and, bit_or, Fits, w8, w32, w64, Bor, MutBor}
+use Rattle.module_core.specs.Core.{tests_of}
+use Rattle.module_core.specs.QuietStep.{cycled_of, main_cycled_of}
+use Rattle.module_core.proofs.Core.tests.Goals as goal
+
+pub returns : goal.returns
+unfolding tests_of
+returns c =
+    rw (
+      c.clear_count.ensures,
+      c.uses_t5.ensures,
+      c.is_due.ensures,
+      c.enables_sync.ensures,
+      c.front_test.ensures,
+      c.uses_t4.ensures,
+      c.has_front_busy.ensures,
+      c.is_reached-2.ensures,
+      c.is_reached.ensures,
+      c.is_late_due.ensures,
+      c.uses_t1.ensures,
+      c.has_pass3.ensures,
+      c.has_fail3.ensures,
+      c.has_pass2.ensures,
+      c.has_fail2.ensures,
+    )
