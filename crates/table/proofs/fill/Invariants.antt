@@ -1,16 +1,11 @@
 -- `table::fill` meets its contract. The loop's invariant: the slice keeps its length, and each place passed has its word; the
 -- measure is what is left of the length. Written by hand over the lines that `rt dev` prints. Assumes nothing.
 use Prim.Native.Nat.{ℕ, ◌-◌, ◌<◌}
-use mathlib.Core.Path.{◌≡◌, refl, ◌∙◌}
-use native.Mathlib.Omega.{arith}
-use lib.ListN.{length, get_or, length-set}
-use lib.Seq.{get_or-set_same, get_or-set_other}
-use borrow.Author.Count.{below_more}
+use mathlib.Core.Path.{◌≡◌}
+use lib.ListN.{length, get_or}
 use Rattle.table.specs.Table.{table_word_of}
-use Rattle.table.proofs.TableLaws.{table_by_places}
-use Rattle.std.proofs.Common.{length, ◌-◌, ◌≡◌, ◌<◌, ℕ, ◌+◌, ◌*◌, ◌≤◌}
-use Rattle.table.specs.Shipped.{shipped_words}
-use Rattle.table.specs.Table.{is_taken_word, are_taken, over_of, table_word_of, table_of}
+use Rattle.std.proofs.Common.{length, ◌-◌, ◌≡◌, ◌<◌, ℕ}
+use Rattle.table.specs.Table.{table_word_of}
 use Rattle.table.proofs.fill.Given as goal
 
 abbrev pub invariant-loop-place : goal.invariant-loop-place

@@ -1,6 +1,6 @@
 -- `table::word_at` meets its contract. The loop's invariant: the word is what is gathered from input i on; the measure is i.
 -- Written by hand over the lines that `rt dev` prints. Assumes nothing.
-use Prim.Native.Nat.{ℕ, ◌-◌, ◌<◌, ◌≤◌}
+use Prim.Native.Nat.{ℕ, ◌-◌}
 use mathlib.Core.Path.{◌≡◌, refl, sym, ap, ◌∙◌}
 use mathlib.Core.Bool.{true, false}
 use native.Mathlib.Omega.{arith}
@@ -8,9 +8,8 @@ use lib.ListN.{length, get_or, get_or-eq_default}
 use borrow.Author.Tests.{eq-eqb, ne_eqb}
 use Rattle.table.specs.Table.{over_of}
 use Rattle.table.proofs.TableChoices.{gathered, gathered_from, gathered_down, gathered_all, gathered_is_table}
-use Rattle.std.proofs.Common.{rules, ◌≡◌, ◌<◌, length, ℕ, ◌+◌, ◌-◌, ◌*◌, ◌≤◌, ◌/◌, ◌%◌, Bool, true, false, nat_eq, nat_lt, List, [], ◌∷◌, ◌++◌, slice_index_or, slice_set, bit_and, bit_or, Fits, w8, w32, w64, Bor, MutBor}
-use Rattle.table.specs.Shipped.{shipped_words}
-use Rattle.table.specs.Table.{is_taken_word, are_taken, over_of, table_word_of, table_of}
+use Rattle.std.proofs.Common.{◌≡◌, length, ℕ, ◌-◌, true, false}
+use Rattle.table.specs.Table.{over_of}
 use Rattle.table.proofs.word_at.Goals as goal
 
 pub loop-i-init : goal.loop-i-init

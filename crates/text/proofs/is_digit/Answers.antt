@@ -2,9 +2,7 @@
 -- First written by tools/prove.py. Assumes nothing.
 use Rattle.text.specs.Text.{is_digit_of}
 use mathlib.Core.Path.{refl}
-use Rattle.std.proofs.Common.{rules, ◌≡◌, ◌/◌, ◌%◌, ◌^◌, ◌<◌, ◌≤◌, ℕ, ◌+◌, ◌-◌, ◌*◌, length, Bool, true, false, nat_eq, nat_lt, List, [], ◌∷◌, ◌++◌, slice_index_or, slice_set, bit_and, bit_or, Fits, w8, w32, w64, Bor, MutBor}
-use Rattle.text.specs.Text.{is_digit_of, digit_of, hex_digit, hex}
-use Rattle.text.specs.Page.{page, write, write_byte}
+use Rattle.text.specs.Text.{is_digit_of}
 use Rattle.text.proofs.is_digit.Goals as goal
 
 pub returns : goal.returns

@@ -2,9 +2,7 @@
 -- stay: the two branches of `write_byte`. First written by tools/prove.py. Assumes nothing.
 use Rattle.text.specs.Page.{write_byte}
 use borrow.Author.Tests.{le-ltb, lt-ltb}
-use Rattle.std.proofs.Common.{rules, ◌≡◌, ◌/◌, ◌%◌, ◌^◌, ◌<◌, ◌≤◌, ℕ, ◌+◌, ◌-◌, ◌*◌, length, Bool, true, false, nat_eq, nat_lt, List, [], ◌∷◌, ◌++◌, slice_index_or, slice_set, bit_and, bit_or, Fits, w8, w32, w64, Bor, MutBor}
-use Rattle.text.specs.Text.{is_digit_of, digit_of, hex_digit, hex}
-use Rattle.text.specs.Page.{page, write, write_byte}
+use Rattle.text.specs.Page.{write_byte}
 use Rattle.text.proofs.put.Goals as goal
 
 pub returns-then-at-out : goal.returns-then-at-out

@@ -1,14 +1,13 @@
 -- `text::put_hex` meets its contract. The loop's invariant: the digits left, written on the page as it is, give the
 -- page asked for; the measure is how many are left. Written by hand over the lines that `rt dev` prints. Assumes nothing.
-use Prim.Native.Nat.{ℕ, ◌-◌, ◌≤◌}
-use mathlib.Core.Path.{◌≡◌, refl, sym, ap, ◌∙◌}
+use Prim.Native.Nat.{ℕ, ◌-◌}
+use mathlib.Core.Path.{sym, ap, ◌∙◌}
 use native.Mathlib.Omega.{arith}
-use lib.ListN.{length}
 use Rattle.text.specs.Text.{hex}
 use Rattle.text.specs.Page.{page, write, write_byte}
 use Rattle.text.proofs.PageLaws.{write_hex, write_none}
-use Rattle.std.proofs.Common.{rules, ◌≡◌, ◌/◌, ◌%◌, ◌^◌, ◌<◌, ◌≤◌, ℕ, ◌+◌, ◌-◌, ◌*◌, length, Bool, true, false, nat_eq, nat_lt, List, [], ◌∷◌, ◌++◌, slice_index_or, slice_set, bit_and, bit_or, Fits, w8, w32, w64, Bor, MutBor}
-use Rattle.text.specs.Text.{is_digit_of, digit_of, hex_digit, hex}
+use Rattle.std.proofs.Common.{ℕ, ◌-◌}
+use Rattle.text.specs.Text.{hex}
 use Rattle.text.specs.Page.{page, write, write_byte}
 use Rattle.text.proofs.put_hex.Goals as goal
 

@@ -1,15 +1,13 @@
 -- `text::put_hex` meets its contract. The loop's invariant: the digits left, written on the page as it is, give the
 -- page asked for; the measure is how many are left. Written by hand over the lines that `rt dev` prints. Assumes nothing.
-use Prim.Native.Nat.{ℕ, ◌-◌, ◌≤◌}
-use mathlib.Core.Path.{◌≡◌, refl, sym, ap, ◌∙◌}
-use native.Mathlib.Omega.{arith}
+use Prim.Native.Nat.{◌≤◌}
+use mathlib.Core.Path.{◌≡◌}
 use lib.ListN.{length}
 use Rattle.text.specs.Text.{hex}
-use Rattle.text.specs.Page.{page, write, write_byte}
-use Rattle.text.proofs.PageLaws.{write_hex, write_none}
-use Rattle.std.proofs.Common.{◌≡◌, ◌/◌, ◌%◌, ◌^◌, ◌<◌, ◌≤◌, ℕ, ◌+◌, ◌-◌, ◌*◌, length}
-use Rattle.text.specs.Text.{is_digit_of, digit_of, hex_digit, hex}
-use Rattle.text.specs.Page.{page, write, write_byte}
+use Rattle.text.specs.Page.{page, write}
+use Rattle.std.proofs.Common.{◌≡◌, ◌≤◌, length}
+use Rattle.text.specs.Text.{hex}
+use Rattle.text.specs.Page.{page, write}
 use Rattle.text.proofs.put_hex.Given as goal
 
 abbrev pub invariant-loop-left : goal.invariant-loop-left

@@ -5,11 +5,9 @@ use mathlib.Core.Bool.{not}
 use lib.ListN.{length}
 use Rattle.branch.specs.Branch.{has_word}
 use Rattle.branches.specs.ReadoutFields.{branch_at}
-use Rattle.branches.proofs.ReadoutChoices.{four_from, every_of_four}
-use Rattle.std.proofs.Common.{rules, ◌≡◌, length, ℕ, ◌+◌, ◌-◌, ◌*◌, ◌<◌, ◌≤◌, ◌/◌, ◌%◌, Bool, true, false, nat_eq, nat_lt, List, [], ◌∷◌, ◌++◌, slice_index_or, slice_set, bit_and, bit_or, Fits, w8, w32, w64, Bor, MutBor}
-use Rattle.branches.specs.Readout.{module_branches, fresh_of, emptied_of, is_empty_of, has_room_of, is_quiet_of, side_after_of, gathered_of, silent_of, step_of, is_sound_branch_of, is_well_formed_of}
-use Rattle.bits.specs.Notation.{if◌then◌else◌}
-use Rattle.branch.specs.Branch.{queue_depth}
+use Rattle.branches.proofs.ReadoutChoices.{every_of_four}
+use Rattle.std.proofs.Common.{length}
+use Rattle.branches.specs.Readout.{is_empty_of}
 use Rattle.branches.proofs.Readout.is_empty.Goals as goal
 
 pub returns : goal.returns

@@ -1,8 +1,6 @@
 -- `branches::Readout::standing` meets its contract: its four sides are those of the list (`standing_of_four`).
 -- First written by tools/prove.py. Assumes nothing.
-use Rattle.branches.proofs.ReadoutChoices.{four_from, standing_of_four}
-use Rattle.std.proofs.Common.{rules, ◌≡◌, ℕ, ◌+◌, ◌-◌, ◌*◌, ◌<◌, ◌≤◌, length, ◌/◌, ◌%◌, Bool, true, false, nat_eq, nat_lt, List, [], ◌∷◌, ◌++◌, slice_index_or, slice_set, bit_and, bit_or, Fits, w8, w32, w64, Bor, MutBor}
-use Rattle.branches.specs.Readout.{standing_side_of, standing_of}
+use Rattle.branches.proofs.ReadoutChoices.{standing_of_four}
 use Rattle.branches.proofs.Readout.standing.Goals as goal
 
 pub returns : goal.returns

@@ -4,11 +4,8 @@ use mathlib.Core.Path.{◌≡◌, sym, ◌∙◌}
 use mathlib.Core.Bool.{Bool, true, not, ◌&&◌}
 use borrow.Author.Tests.{not-true}
 use Rattle.bits.proofs.TestLaws.{and_left, and_right}
-use Rattle.branches.proofs.ReadoutChoices.{four_from, quiet_is_silent}
-use Rattle.std.proofs.Common.{rules, ◌≡◌, length, ℕ, ◌+◌, ◌-◌, ◌*◌, ◌<◌, ◌≤◌, ◌/◌, ◌%◌, Bool, true, false, nat_eq, nat_lt, List, [], ◌∷◌, ◌++◌, slice_index_or, slice_set, bit_and, bit_or, Fits, w8, w32, w64, Bor, MutBor}
-use Rattle.branches.specs.Readout.{module_branches, fresh_of, emptied_of, is_empty_of, has_room_of, is_quiet_of, side_after_of, gathered_of, silent_of, step_of, is_sound_branch_of, is_well_formed_of}
-use Rattle.bits.specs.Notation.{if◌then◌else◌}
-use Rattle.branch.specs.Branch.{queue_depth}
+use Rattle.branches.proofs.ReadoutChoices.{quiet_is_silent}
+use Rattle.std.proofs.Common.{◌≡◌, Bool, true}
 use Rattle.branches.proofs.Readout.step.Goals as goal
 
 pub returns-then-is_quiet-is_word : goal.returns-then-is_quiet-is_word

@@ -4,9 +4,7 @@
 use mathlib.Core.List.{[], ◌∷◌}
 use Rattle.bits.specs.Bits.{tabulate}
 use Rattle.prescaler.proofs.PrescalerChoices.{counted_by_choices}
-use Rattle.std.proofs.Common.{rules, ◌≡◌, true, ◌≤◌, eqb, ℕ, ◌+◌, ◌-◌, ◌*◌, ◌<◌, length, ◌/◌, ◌%◌, Bool, false, nat_lt, List, [], ◌∷◌, ◌++◌, slice_index_or, slice_set, bit_and, bit_or, Fits, w8, w32, w64, Bor, MutBor}
-use Rattle.bits.specs.Notation.{if◌then◌else◌}
-use Rattle.prescaler.specs.Prescaler.{fresh_of, with_factor_of, factor_of, reloaded_of, fate_of, counter_after, scaled_of, step_of, all_fit_of, has_counters_within_of, has_valid_factors_of}
+use Rattle.std.proofs.Common.{[], ◌∷◌}
 use Rattle.prescaler.proofs.Prescalers.counted_down.Goals as goal
 
 pub returns : goal.returns

@@ -2,9 +2,7 @@
 -- First written by tools/prove.py. Assumes nothing.
 use Rattle.prescaler.specs.Prescaler.{with_factor_of}
 use borrow.Author.Tests.{le-leb, lt-leb}
-use Rattle.std.proofs.Common.{rules, ◌≡◌, true, ◌≤◌, eqb, ℕ, ◌+◌, ◌-◌, ◌*◌, ◌<◌, length, ◌/◌, ◌%◌, Bool, false, nat_lt, List, [], ◌∷◌, ◌++◌, slice_index_or, slice_set, bit_and, bit_or, Fits, w8, w32, w64, Bor, MutBor}
-use Rattle.bits.specs.Notation.{if◌then◌else◌}
-use Rattle.prescaler.specs.Prescaler.{fresh_of, with_factor_of, factor_of, reloaded_of, fate_of, counter_after, scaled_of, step_of, all_fit_of, has_counters_within_of, has_valid_factors_of}
+use Rattle.prescaler.specs.Prescaler.{with_factor_of}
 use Rattle.prescaler.proofs.Prescalers.with_factor.Goals as goal
 
 pub returns-then-loads : goal.returns-then-loads

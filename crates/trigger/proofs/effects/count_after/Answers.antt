@@ -1,8 +1,7 @@
 -- `trigger::effects::count_after` meets its contract: one return for each choice, each the count of its counter.
 -- First written by tools/prove.py. Assumes nothing.
 use Rattle.trigger.specs.Effects.{sync_after_of}
-use Rattle.std.proofs.Common.{rules, ◌≡◌, ℕ, ◌+◌, ◌-◌, ◌*◌, ◌<◌, ◌≤◌, length, ◌/◌, ◌%◌, Bool, true, false, nat_eq, nat_lt, List, [], ◌∷◌, ◌++◌, slice_index_or, slice_set, bit_and, bit_or, Fits, w8, w32, w64, Bor, MutBor}
-use Rattle.trigger.specs.Effects.{status_of, csr_after_of, sync_after_of, outcome_of, signals_of}
+use Rattle.trigger.specs.Effects.{sync_after_of}
 use Rattle.trigger.proofs.effects.count_after.Goals as goal
 
 pub returns-then-m-u : goal.returns-then-m-u

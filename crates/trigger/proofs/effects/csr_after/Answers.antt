@@ -3,9 +3,7 @@
 -- First written by tools/prove.py. Assumes nothing.
 use Rattle.trigger.specs.Effects.{csr_after_of}
 use Rattle.trigger.proofs.EffectsLaws.{nothing_ended}
-use borrow.Author.Tests.{not-true}
-use Rattle.std.proofs.Common.{rules, ◌≡◌, ℕ, ◌+◌, ◌-◌, ◌*◌, ◌<◌, ◌≤◌, length, ◌/◌, ◌%◌, Bool, true, false, nat_eq, nat_lt, List, [], ◌∷◌, ◌++◌, slice_index_or, slice_set, bit_and, bit_or, Fits, w8, w32, w64, Bor, MutBor}
-use Rattle.trigger.specs.Effects.{status_of, csr_after_of, sync_after_of, outcome_of, signals_of}
+use Rattle.trigger.specs.Effects.{csr_after_of}
 use Rattle.trigger.proofs.effects.csr_after.Goals as goal
 
 pub returns-then-not-m-u : goal.returns-then-not-m-u

@@ -1,0 +1,48 @@
+-- `access::after_read` meets its contract: one arm for each register; a scaler is latched or not.
+-- First written by tools/prove.py. Assumes nothing.
+use Rattle.access.specs.Access.{after_read_of}
+use Rattle.std.proofs.Common.{rules}
+use Rattle.std.proofs.Common.{rules, ◌≡◌, ℕ, ◌+◌, ◌-◌, ◌*◌, ◌<◌, ◌≤◌, length, ◌/◌, ◌%◌, Bool, true, false, nat_eq, nat_lt, List, [], ◌∷◌, ◌++◌, slice_index_or, slice_set, bit_and, bit_or, Fits, w8, w32, w64, Bor, MutBor}
+use Rattle.branches.specs.ReadoutFields.{with_roc}
+use Rattle.module_core.specs.CoreFields.{with_scalers}
+use Rattle.supervisor.specs.Supervisor.{with_readout, on_core}
+use Rattle.access.specs.Access.{after_csr_of, csr_written_of, setting_written_of, scaler_written_of, test_written_of, written_of, setting_of, base_of, merged_of, after_read_of, shown_of}
+use Rattle.access.proofs.after_read.Goals as goal
+
+pub returns-then-latches : goal.returns-then-latches
+unfolding after_read_of
+returns-then-latches c =
+    rw (
+      c.with_scalers.ensures,
+      c.latched.ensures,
+      c.if-latches.true,
+      c.in-Scaler.is,
+    )
+
+pub returns-in-Csr : goal.returns-in-Csr
+unfolding after_read_of
+returns-in-Csr c = rw c.in-Csr.is
+
+pub returns-in-Setting : goal.returns-in-Setting
+unfolding after_read_of
+returns-in-Setting c = rw c.in-Setting.is
+
+pub returns-else-latches : goal.returns-else-latches
+unfolding after_read_of
+returns-else-latches c = rw (c.if-latches.false, c.in-Scaler.is)
+
+pub returns-in-Assign : goal.returns-in-Assign
+unfolding after_read_of
+returns-in-Assign c = rw c.in-Assign.is
+
+pub returns-in-State : goal.returns-in-State
+unfolding after_read_of
+returns-in-State c = rw c.in-State.is
+
+pub returns-in-Test : goal.returns-in-Test
+unfolding after_read_of
+returns-in-Test c = rw c.in-Test.is
+
+pub returns-in-Absent : goal.returns-in-Absent
+unfolding after_read_of
+returns-in-Absent c = rw c.in-Absent.is

@@ -1,0 +1,38 @@
+-- `access::shown` meets its contract: one arm for each register.
+-- First written by tools/prove.py. Assumes nothing.
+use Rattle.access.specs.Access.{shown_of}
+use Rattle.std.proofs.Common.{rules}
+use Rattle.std.proofs.Common.{rules, ◌≡◌, ℕ, ◌+◌, ◌-◌, ◌*◌, ◌<◌, ◌≤◌, length, ◌/◌, ◌%◌, Bool, true, false, nat_eq, nat_lt, List, [], ◌∷◌, ◌++◌, slice_index_or, slice_set, bit_and, bit_or, Fits, w8, w32, w64, Bor, MutBor}
+use Rattle.branches.specs.ReadoutFields.{with_roc}
+use Rattle.module_core.specs.CoreFields.{with_scalers}
+use Rattle.supervisor.specs.Supervisor.{with_readout, on_core}
+use Rattle.access.specs.Access.{after_csr_of, csr_written_of, setting_written_of, scaler_written_of, test_written_of, written_of, setting_of, base_of, merged_of, after_read_of, shown_of}
+use Rattle.access.proofs.shown.Goals as goal
+
+pub returns-in-Csr : goal.returns-in-Csr
+unfolding shown_of
+returns-in-Csr c = rw c.in-Csr.is
+
+pub returns-in-Setting : goal.returns-in-Setting
+unfolding shown_of
+returns-in-Setting c = rw (c.setting_value.ensures, c.in-Setting.is)
+
+pub returns-in-Scaler : goal.returns-in-Scaler
+unfolding shown_of
+returns-in-Scaler c = rw (c.latch.ensures, c.in-Scaler.is)
+
+pub returns-in-Assign : goal.returns-in-Assign
+unfolding shown_of
+returns-in-Assign c = rw c.in-Assign.is
+
+pub returns-in-State : goal.returns-in-State
+unfolding shown_of
+returns-in-State c = rw (c.state.ensures, c.in-State.is)
+
+pub returns-in-Test : goal.returns-in-Test
+unfolding shown_of
+returns-in-Test c = rw c.in-Test.is
+
+pub returns-in-Absent : goal.returns-in-Absent
+unfolding shown_of
+returns-in-Absent c = rw c.in-Absent.is
