@@ -1,37 +1,34 @@
 -- Laws of the reader: what its loops go by.
---     found_is_length, length_at_most   the length of a line, as the kit's search finds it; within the script
+--     found_is_length, length_at_most   the length of a line, as a search of its bytes finds it; within the script
 --     lines_end          a last line without its newline reads as with it
 --     lines_append       the lines up to a newline do not depend on the bytes after it
 --     lines_first        the lines of a script that is not empty: its first line, and those after its newline
 -- Assumes nothing.
 use Prim.Native.Nat.{ℕ, suc, ◌+◌, ◌<◌, ◌≤◌}
-use mathlib.Core.Path.{◌≡◌, refl, ap, ◌∙◌}
+use mathlib.Core.Path.{◌≡◌, refl, sym, ap, ◌∙◌}
 use mathlib.Core.Bool.{Bool, true, false, cond}
 use mathlib.Core.List.{List, [], ◌∷◌, ◌++◌}
 use native.Mathlib.Omega.{arith}
-use lib.Dec.{eqb}
+use lib.Dec.{eqb, ltb}
 use lib.ListN.{length, take, drop}
 use lib.Seq.{take-length}
-use Rattle.bytes.specs.Bytes.{index_of, index_after, slice}
+use Rattle.std.proofs.Common.{Option, Some, None}
+use Rattle.std.specs.List.{position, position_or_len}
+use Rattle.std.proofs.lemmas.List.Recursion.{is_position_or_len}
+use borrow.Author.Tests.{ltb-false}
 use Rattle.bits.proofs.TestLaws.{by_cond}
 use Rattle.text.specs.Text.{newline}
 use Rattle.reader.specs.Reader.{before_first, lines_of, line_length_of}
 
 -- ---- the first line
 
--- the kit's index of a newline; in the whole rest, as the kit's search gives it
-index_is_length : (l : List ℕ) → index_of newline l ≡ line_length_of l
-unfolding index_of index_after line_length_of
-index_is_length [] = refl
-index_is_length (b ∷ bs) = step (eqb b newline) (index_is_length bs)
-  where
-    step : (t : Bool) {m n : ℕ} → m ≡ n → index_after t m ≡ cond t 0 (suc n)
-    step true h = refl
-    step false h = ap suc h
-
-pub found_is_length : (l : List ℕ) → 0 + index_of newline (slice 0 (length l) l) ≡ line_length_of l
-unfolding slice
-found_is_length l = rw (take-length l) (omega (arith, index_is_length l))
+-- the index of the first newline, or the length where there is none
+pub found_is_length : (l : List ℕ) → position_or_len (λ (b : ℕ). eqb b newline) l ≡ line_length_of l
+unfolding line_length_of
+found_is_length l =
+    sym
+    (is_position_or_len line_length_of (λ (b : ℕ). eqb b newline) refl
+    (λ b bs. ap (λ (n : ℕ). cond (eqb b newline) 0 n) (omega arith)) l)
 
 pub length_at_most : (l : List ℕ) → line_length_of l ≤ length l
 unfolding line_length_of
@@ -39,6 +36,27 @@ length_at_most [] = omega arith
 length_at_most (b ∷ bs) =
     by_cond (λ (n : ℕ). n ≤ suc (length bs)) (eqb b newline) (λ _. omega arith)
     (λ _. omega (arith, length_at_most bs))
+
+-- what a search for the newline finds, of which `k` is the index, is the length
+module _ (l : List ℕ) where
+  at : ℕ
+  at = position_or_len (λ (b : ℕ). eqb b newline) l
+
+  pub found : (n : ℕ) → position (λ (b : ℕ). eqb b newline) l ≡ Some n → n ≡ line_length_of l
+  unfolding at
+  found n e = go (ltb at (length l)) e ∙ found_is_length l
+    where
+      go : (t : Bool) → cond t (Some at) None ≡ Some n → n ≡ at
+      go true e = cc
+      go false e = absurd cc
+
+  pub not_found : position (λ (b : ℕ). eqb b newline) l ≡ None → length l ≡ line_length_of l
+  unfolding at
+  not_found e = go (ltb at (length l)) refl e
+    where
+      go : (t : Bool) → ltb at (length l) ≡ t → cond t (Some at) None ≡ None → length l ≡ line_length_of l
+      go true h e = absurd cc
+      go false h e = omega (arith, ltb-false at (length l) h, length_at_most l, found_is_length l)
 
 -- ---- lines
 

@@ -2,12 +2,12 @@
 // the end of a line stands 0, a byte of no form.
 #![tactic(auto)]
 
-ghost use Rattle.std.specs.Prelude.{◌≡◌, ◌+◌, ◌<◌, ◌≤◌, ◌^◌, length};
+ghost use Rattle.std.specs.Prelude.{◌≡◌, ◌+◌, ◌<◌, ◌≤◌, ◌^◌, ◌==◌, length, position};
+ghost use Rattle.text.specs.Text.{newline};
 ghost use Rattle.reader.specs.Reader.{byte_of, has_digits_of, has_field_of, is_write_register_of, is_read_register_of};
 ghost use Rattle.reader.specs.Reader.{is_write_memory_of, is_read_memory_of, is_tick_of, number_at, command_of};
 ghost use Rattle.reader.specs.Reader.{line_length_of, first_line_of};
 
-use bytes::scan;
 use text::{digit, is_digit};
 
 // What a line asks.
@@ -155,12 +155,21 @@ fn command_of(line: &[u8]) -> Command
 
 // ---- the line reader
 
+fn first_newline(rest: &[u8]) -> Option<usize>
+    ensures { result ≡ position (λ b. b == newline) rest.now }
+{
+    rest.iter().position(|b| *b == b'\n')
+}
+
 // How many bytes of the rest stand before its first newline. The second clause is for the part that is the line.
 pub fn line_length(rest: &[u8]) -> usize
     ensures value { result ≡ line_length_of rest.now }
     ensures upper_bound { result ≤ length rest.now }
 {
-    scan::find(rest, 0, rest.len(), b'\n')
+    match first_newline(rest) {
+        Some(at) => at,
+        None => rest.len(),
+    }
 }
 
 // [Console.4] the first line of the rest of a script, from any line onward

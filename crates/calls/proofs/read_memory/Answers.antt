@@ -1,0 +1,60 @@
+-- `calls::read_memory` meets its contract: each return is reached by the tests that the definition makes, in the same order.
+-- First written by tools/prove.py. Assumes nothing.
+use Rattle.declines.specs.Calls.{read_memory_of}
+use borrow.Author.Tests.{eq-eqb, le-leb, lt-leb, ne_eqb}
+use Rattle.std.proofs.Common.{rules, ◌≡◌, ℕ, ◌+◌, ◌-◌, ◌*◌, ◌<◌, ◌≤◌, length, ◌/◌, ◌%◌, Bool, true, false, nat_eq, nat_lt, List, [], ◌∷◌, ◌++◌, slice_index_or, slice_set, bit_and, bit_or, Fits, w8, w32, w64, Bor, MutBor}
+use Rattle.declines.specs.Calls.{is_guarded_of, write_run_of, read_run_of, write_register_of, read_register_of, write_bytes_of, read_bytes_of, write_memory_of, memory_after_of, read_memory_of, tick_of}
+use Rattle.declines.specs.Fill.{fill_memory_of, memory_filled_of}
+use Rattle.calls.proofs.read_memory.Goals as goal
+
+pub returns-then-is_spoiled : goal.returns-then-is_spoiled
+unfolding read_memory_of
+returns-then-is_spoiled c = rw (c.refused_read.ensures, ← c.is_spoiled.ensures, c.if-is_spoiled.true)
+
+pub returns-then-memory-ne-MEMORY_PLACES : goal.returns-then-memory-ne-MEMORY_PLACES
+unfolding read_memory_of
+returns-then-memory-ne-MEMORY_PLACES c =
+    rw (
+      c.refused_read-then-memory-ne-MEMORY_PLACES.ensures,
+      ne_eqb _ _ c.if-memory-ne-MEMORY_PLACES.true,
+      ← c.is_spoiled.ensures,
+      c.if-is_spoiled.false,
+    )
+
+pub returns-then-at-ge-MEMORY_PLACES : goal.returns-then-at-ge-MEMORY_PLACES
+unfolding read_memory_of
+returns-then-at-ge-MEMORY_PLACES c =
+    rw (
+      c.refused_read-then-at-ge-MEMORY_PLACES.ensures,
+      le-leb _ _ c.if-at-ge-MEMORY_PLACES.true,
+      eq-eqb _ _ c.if-memory-ne-MEMORY_PLACES.false,
+      ← c.is_spoiled.ensures,
+      c.if-is_spoiled.false,
+    )
+
+pub returns-then-is_active : goal.returns-then-is_active
+unfolding read_memory_of
+returns-then-is_active c =
+    rw (
+      c.refused_read-then-is_active.ensures,
+      c.marked.ensures,
+      ← c.is_active.ensures,
+      c.if-is_active.true,
+      lt-leb _ _ c.if-at-ge-MEMORY_PLACES.false,
+      eq-eqb _ _ c.if-memory-ne-MEMORY_PLACES.false,
+      ← c.is_spoiled.ensures,
+      c.if-is_spoiled.false,
+    )
+
+pub returns : goal.returns
+unfolding read_memory_of
+returns c =
+    rw (
+      c.wide.ensures,
+      ← c.is_active.ensures,
+      c.if-is_active.false,
+      lt-leb _ _ c.if-at-ge-MEMORY_PLACES.false,
+      eq-eqb _ _ c.if-memory-ne-MEMORY_PLACES.false,
+      ← c.is_spoiled.ensures,
+      c.if-is_spoiled.false,
+    )

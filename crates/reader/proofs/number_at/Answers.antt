@@ -1,0 +1,40 @@
+-- `reader::number_at` meets its contract. The loop's invariant: the value is the number of the digits passed, and
+-- fits them; the measure is what is left of the count. Written by hand over the lines that `rt dev` prints. Assumes nothing.
+use Prim.Native.Nat.{ℕ, ◌+◌, ◌-◌, ◌<◌, ◌≤◌, ◌*◌, ◌^◌}
+use mathlib.Core.Path.{◌≡◌, refl, ap, ◌∙◌}
+use native.Mathlib.Omega.{arith}
+use native.Mathlib.Nat.{pow-le-pow_right, pow-succ'}
+use native.Mathlib.Numerals.{add-one}
+use lib.Dec.{lit<}
+use Rattle.text.specs.Text.{digit_of}
+use Rattle.reader.specs.Reader.{number_at}
+use Rattle.std.proofs.Common.{rules, ◌≡◌, ◌+◌, ◌<◌, ◌≤◌, ◌^◌, length, ℕ, ◌-◌, ◌*◌, ◌/◌, ◌%◌, Bool, true, false, nat_eq, nat_lt, List, [], ◌∷◌, ◌++◌, slice_index_or, slice_set, bit_and, bit_or, Fits, w8, w32, w64, Bor, MutBor}
+use Rattle.reader.specs.Reader.{byte_of, has_digits_of, has_field_of, is_write_register_of, is_read_register_of, is_write_memory_of, is_read_memory_of, is_tick_of, number_at, command_of, line_length_of, first_line_of}
+use Rattle.reader.proofs.number_at.Goals as goal
+
+pub loop-i-init : goal.loop-i-init
+unfolding number_at
+loop-i-init c = (omega arith, refl, lit< tt)
+
+pub overflow_mul-value : goal.overflow_mul-value
+overflow_mul-value c =
+    let p = pow-le-pow_right {n = 16} (omega arith) {i = c.loop-i.i} {j = 7} (omega arith) in
+    omega (arith, p)
+
+pub overflow_add-value : goal.overflow_add-value
+overflow_add-value c =
+    let p = pow-le-pow_right {n = 16} (omega arith) {i = c.loop-i.i} {j = 7} (omega arith) in
+    omega (arith, p)
+
+pub loop-i-preserved : goal.loop-i-preserved
+unfolding number_at
+loop-i-preserved c =
+    let i = c.loop-i.i in
+    let start = c in
+    let digit = c.digit.ensures.value ∙ ap digit_of c.byte.ensures in (
+      omega arith,
+      rw (add-one i)
+          (ap (λ (n : ℕ). 16 * n + c.digit.result) c.loop-i.invariant.1
+          ∙ ap (λ (d : ℕ). 16 * number_at start.args.line.now start.args.at i + d) digit),
+      rw (add-one i, pow-succ' 16 i) (omega arith),
+    )
