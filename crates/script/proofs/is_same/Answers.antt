@@ -1,0 +1,45 @@
+-- `script::is_same` meets its contract. The loop's invariant: the two lists are the same if their rests are; the measure
+-- is what is left. Written by hand over the lines that `rt dev` prints. Assumes nothing.
+use Prim.Native.Nat.{◌-◌, ◌<◌, ◌≤◌}
+use mathlib.Core.Path.{◌≡◌, refl, sym, ◌∙◌}
+use native.Mathlib.Omega.{arith}
+use lib.ListN.{length, drop}
+use borrow.Author.Tests.{eq-eqb, ne_eqb}
+use Rattle.script.proofs.HeaderLaws.{same_lengths, same_after, same_fails, same_ends}
+use Rattle.bits.specs.Bytes.{is_same_of}
+use Rattle.std.proofs.Common.{rules, ◌≡◌, ◌+◌, ◌≤◌, take, drop, length, ℕ, ◌-◌, ◌*◌, ◌<◌, ◌/◌, ◌%◌, Bool, true, false, nat_eq, nat_lt, List, [], ◌∷◌, ◌++◌, slice_index_or, slice_set, bit_and, bit_or, Fits, w8, w32, w64, Bor, MutBor}
+use Rattle.bits.specs.Bytes.{is_same_of}
+use Rattle.declines.specs.Runs.{zero_memory, fresh_session}
+use Rattle.reader.specs.Reader.{lines_of}
+use Rattle.script.specs.Script.{script_limit, capacity, is_header_of, answers_from, answers_of}
+use Rattle.script.proofs.is_same.Goals as goal
+
+pub returns-then-a-b : goal.returns-then-a-b
+returns-then-a-b c = sym (same_lengths c.args.a.now c.args.b.now c.if-a-b.true)
+
+pub returns-then-a-i : goal.returns-then-a-i
+returns-then-a-i c =
+    let i = c.loop-i.i in
+    let inv = c.loop-i.invariant in
+    let a = c.args.a.now in
+    let b = c.args.b.now in
+    let inside : i < length a = omega arith in
+    let within : i < length b = omega arith in
+    sym (same_fails a b i inside within (ne_eqb _ _ c.if-a-i.true)) ∙ inv.2
+
+pub loop-i-preserved : goal.loop-i-preserved
+loop-i-preserved c =
+    let i = c.loop-i.i in
+    let inv = c.loop-i.invariant in
+    let a = c.args.a.now in
+    let b = c.args.b.now in
+    let inside : i < length a = omega arith in
+    let within : i < length b = omega arith in
+    (omega arith, inv.1, sym (same_after a b i inside within (eq-eqb _ _ c.if-a-i.false)) ∙ inv.2)
+
+pub returns : goal.returns
+returns c =
+    let i = c.loop-i.i in
+    let inv = c.loop-i.invariant in
+    let args = c.args in
+    sym (same_ends args.a.now args.b.now i (omega arith) (omega arith)) ∙ inv.2
