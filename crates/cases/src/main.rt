@@ -3,31 +3,48 @@
 // in the file stdout, comes from the model in reference/ and never from this program.
 #![tactic(auto)]
 
-ghost use Rattle.std.specs.Prelude.{◌≡◌, length};
+ghost use Rattle.std.specs.Prelude.{◌≡◌, ◌≤◌, length, IfOk};
 
-use bytes::scan;
-use libc::STDOUT_FILENO;
+use std::fs::File;
+use std::io;
+use std::io::{Read, Write};
 
 const END_OF_SCRIPT: u8 = 30;
 
 // One byte more than the longest script that is run.
 const LONG: usize = 65537;
 
-fn run(script: &[u8]) {
-    let mut out = script::output_buffer();
-    let printed = script::answers(script, &mut out);
-    io::write_all(STDOUT_FILENO, &out[..printed]);
-    io::write_all(STDOUT_FILENO, b"--\n");
+// More than the stored scripts take.
+const STORED: usize = 1048576;
+
+fn run<W: Write>(out: &mut W, script: &[u8]) -> io::Result<()> {
+    let mut answers = script::output_buffer();
+    let printed = script::answers(script, &mut answers);
+    out.write_all(&answers[..printed])?;
+    out.write_all(b"--\n")
 }
 
-fn run_all(scripts: &[u8]) {
+// Where the first script of what is left ends.
+fn script_length(rest: &[u8]) -> usize
+    ensures { result ≤ length rest.now }
+{
+    for (i, b) in rest.iter().enumerate() {
+        if *b == END_OF_SCRIPT {
+            return i;
+        }
+    }
+    rest.len()
+}
+
+fn run_all<W: Write>(out: &mut W, scripts: &[u8]) -> io::Result<()> {
     let mut at = 0;
     while at < scripts.len() {
         let rest = &scripts[at..];
-        let n = scan::find(rest, 0, rest.len(), END_OF_SCRIPT);
-        run(&rest[..n]);
+        let n = script_length(rest);
+        run(out, &rest[..n])?;
         at += n + 1;
     }
+    Ok(())
 }
 
 fn filler() -> [u8; LONG]
@@ -37,23 +54,40 @@ fn filler() -> [u8; LONG]
 }
 
 // A read in a script whose last line is as long as it can be, and with one byte more.
-fn run_long() {
+fn run_long<W: Write>(out: &mut W) -> io::Result<()> {
     let mut long = filler();
-    bytes::copy(b"supervisor\t1\nR\t00\n", &mut long);
-    run(&long[..65536]);
-    run(&long);
+    let begin = b"supervisor\t1\nR\t00\n";
+    long[..begin.len()].copy_from_slice(begin);
+    run(out, &long[..65536])?;
+    run(out, &long)
 }
 
-fn main() {
-    let path = b"scripts";
-    let fd = os::open_read(path);
-    if fd < 0 {
-        os::fail(path);
-        return;
+// Reads until the buffer is full, the file ends or a read fails.
+fn read_all<R: Read>(input: &mut R, buf: &mut [u8]) -> io::Result<usize>
+    ensures { IfOk result (λ len. len ≤ length buf.new) }
+{
+    let mut at = 0;
+    while at < buf.len() {
+        let n = input.read(&mut buf[at..])?;
+        if n == 0 {
+            return Ok(at);
+        }
+        at += n;
     }
-    let mut buf = io::large_buffer();
-    let n = io::read_full(fd, &mut buf);
-    libc::close(fd);
-    run_all(&buf[..n]);
-    run_long();
+    Ok(at)
+}
+
+fn stored() -> [u8; STORED]
+    ensures { 1048576 ≡ length result }
+{
+    [0; STORED]
+}
+
+fn main(rt: HostRuntime) -> io::Result<()> {
+    let mut file = File::open(&rt, "scripts")?;
+    let mut buf = stored();
+    let n = read_all(&mut file, &mut buf)?;
+    let mut out = rt.stdout();
+    run_all(&mut out, &buf[..n])?;
+    run_long(&mut out)
 }

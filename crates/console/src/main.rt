@@ -2,19 +2,13 @@
 // output stand here; everything else is `script::answers`, which is proved.
 #![tactic(auto)]
 
-ghost use Rattle.std.specs.Prelude.{◌≤◌, ◌≡◌, length};
+ghost use Rattle.std.specs.Prelude.{◌≡◌, ◌≤◌, length, IfOk};
 
-use libc::{STDIN_FILENO, STDOUT_FILENO};
+use std::io;
+use std::io::{Read, Write};
 
 // One byte more than the limit is enough to know that a script is longer.
 const INPUT: usize = 65537;
-
-// What was read: how many bytes, and whether a read failed.
-#[derive(Clone, Copy)]
-struct Input {
-    len: usize,
-    failed: bool,
-}
 
 fn input_buffer() -> [u8; INPUT]
     ensures { 65537 ≡ length result }
@@ -23,44 +17,25 @@ fn input_buffer() -> [u8; INPUT]
 }
 
 // [Console.1] reads until the buffer is full, the input ends or a read fails; a read may bring less than was asked for
-fn read_all(buf: &mut [u8]) -> Input
-    ensures { result.len ≤ length buf.new }
+fn read_all<R: Read>(input: &mut R, buf: &mut [u8]) -> io::Result<usize>
+    ensures { IfOk result (λ len. len ≤ length buf.new) }
 {
     let mut at = 0;
     while at < buf.len() {
-        let got = libc::read(STDIN_FILENO, &mut buf[at..]);
-        if got < 0 {
-            return Input {
-                len: at,
-                failed: true,
-            };
-        }
-        let n = io::count(got, &buf[at..]);
+        let n = input.read(&mut buf[at..])?;
         if n == 0 {
-            return Input {
-                len: at,
-                failed: false,
-            };
+            return Ok(at);
         }
         at += n;
     }
-    Input {
-        len: at,
-        failed: false,
-    }
+    Ok(at)
 }
 
-fn main() {
+fn main(rt: HostRuntime) -> io::Result<()> {
     let mut buf = input_buffer();
-    let input = read_all(&mut buf);
-    if input.failed {
-        os::fail(b"standard input");
-        return;
-    }
-    let len = input.len;
+    let mut input = rt.stdin();
+    let len = read_all(&mut input, &mut buf)?;
     let mut out = script::output_buffer();
     let printed = script::answers(&buf[..len], &mut out);
-    if !io::write_all(STDOUT_FILENO, &out[..printed]) {
-        os::fail(b"standard output");
-    }
+    rt.stdout().write_all(&out[..printed])
 }
