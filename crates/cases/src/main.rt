@@ -15,7 +15,7 @@ const END_OF_SCRIPT: u8 = 30;
 const LONG: usize = 65537;
 
 // More than the stored scripts take.
-const STORED: usize = 1048576;
+const STORED: usize = 65536;
 
 fn run<W: Write>(out: &mut W, script: &[u8]) -> io::Result<()> {
     let mut answers = script::output_buffer();
@@ -53,13 +53,25 @@ fn filler() -> [u8; LONG]
     [b'X'; LONG]
 }
 
+// A script's first line and a read, at the front of what is lent.
+fn begin(long: &mut [u8])
+    requires { 18 ≤ length long.old }
+{
+    long[..18].copy_from_slice(b"supervisor\t1\nR\t00\n");
+}
+
+fn run_both<W: Write>(out: &mut W, long: &[u8]) -> io::Result<()>
+    requires { 65537 ≡ length long.now }
+{
+    run(out, &long[..65536])?;
+    run(out, long)
+}
+
 // A read in a script whose last line is as long as it can be, and with one byte more.
 fn run_long<W: Write>(out: &mut W) -> io::Result<()> {
     let mut long = filler();
-    let begin = b"supervisor\t1\nR\t00\n";
-    long[..begin.len()].copy_from_slice(begin);
-    run(out, &long[..65536])?;
-    run(out, &long)
+    begin(&mut long);
+    run_both(out, &long)
 }
 
 // Reads until the buffer is full, the file ends or a read fails.
@@ -78,7 +90,7 @@ fn read_all<R: Read>(input: &mut R, buf: &mut [u8]) -> io::Result<usize>
 }
 
 fn stored() -> [u8; STORED]
-    ensures { 1048576 ≡ length result }
+    ensures { 65536 ≡ length result }
 {
     [0; STORED]
 }
