@@ -4,7 +4,7 @@
 -- Own rules of 02 used here: none. Decisions: H1, H2. Left out: the words of a filled memory, of which table has examples and
 -- claims the laws; a spoiled record and a memory of another length, which no session has.
 -- Assumes nothing.
-use Rattle.std.specs.Prelude.{ℕ, ◌+◌, ◌^◌, List, [], ◌∷◌, set, slice_set}
+use Rattle.std.specs.Prelude.{ℕ, ◌+◌, ◌^◌, List, [], ◌∷◌, slice_set}
 use Rattle.table.specs.Shipped.{shipped_words}
 use Rattle.declines.specs.Runs.{Ask, read_memory, fill_memory}
 use Rattle.bench.specs.Asks.{csr, go, read, store, pulse, class1}

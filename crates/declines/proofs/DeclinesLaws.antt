@@ -15,7 +15,7 @@ use Rattle.supervisor.specs.declared.Supervisor.{Supervisor}
 use Rattle.supervisor.specs.declared.Answer.{Answer}
 use Rattle.declines.specs.declared.Decline.{Decline}
 use Rattle.declines.specs.declared.Decline.TheVariants.{Spoiled, Length, Place, Active, Value}
-use Rattle.declines.specs.declared.Verdict.TheVariants.{Done, Declined}
+use Rattle.declines.specs.declared.Verdict.TheVariants.{Done}
 use Rattle.declines.specs.declared.Reading.TheVariants as reading
 use Rattle.declines.specs.declared.BytesDecline.TheVariants.{BadRun}
 use Rattle.declines.specs.declared.BytesVerdict.TheVariants as bytesVerdict

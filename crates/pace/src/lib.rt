@@ -5,8 +5,8 @@
 
 use branch::{Branch, Slot};
 use branches::{Readout, Side};
-use module_core::Core;
 use declines::Verdict;
+use module_core::Core;
 use numbers::{number_at, wide};
 use prescaler::Prescalers;
 use registers::control::Control;

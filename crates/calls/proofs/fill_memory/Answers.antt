@@ -11,9 +11,8 @@ use Rattle.declines.specs.declared.FillVerdict.TheVariants.{Done}
 use Rattle.declines.specs.Calls.{marked_of}
 use Rattle.declines.specs.Fill.{refuse_fill, fill_memory_of}
 use Rattle.declines.proofs.FillLaws.{refused_fills_nothing, done_fills}
-use Rattle.std.proofs.Common.{rules, ◌≡◌, ℕ, ◌+◌, ◌-◌, ◌*◌, ◌<◌, ◌≤◌, length, ◌/◌, ◌%◌, Bool, true, false, nat_eq, nat_lt, List, [], ◌∷◌, ◌++◌, slice_index_or, slice_set, bit_and, bit_or, Fits, w8, w32, w64, Bor, MutBor}
-use Rattle.declines.specs.Calls.{is_guarded_of, write_run_of, read_run_of, write_register_of, read_register_of, write_bytes_of, read_bytes_of, write_memory_of, memory_after_of, read_memory_of, tick_of}
-use Rattle.declines.specs.Fill.{fill_memory_of, memory_filled_of}
+use Rattle.std.proofs.Common.{◌≡◌, ℕ}
+use Rattle.declines.specs.Fill.{fill_memory_of}
 use Rattle.calls.proofs.fill_memory.Goals as goal
 
 pub returns-then-is_spoiled-clause-value : goal.returns-then-is_spoiled-clause-value

@@ -1,9 +1,7 @@
 -- `calls::read_register` meets its contract: each return is reached by the tests that the definition makes, in the same order.
 -- First written by tools/prove.py; the direction of some facts was changed by hand. Assumes nothing.
 use Rattle.declines.specs.Calls.{read_register_of}
-use Rattle.std.proofs.Common.{rules, ◌≡◌, ℕ, ◌+◌, ◌-◌, ◌*◌, ◌<◌, ◌≤◌, length, ◌/◌, ◌%◌, Bool, true, false, nat_eq, nat_lt, List, [], ◌∷◌, ◌++◌, slice_index_or, slice_set, bit_and, bit_or, Fits, w8, w32, w64, Bor, MutBor}
-use Rattle.declines.specs.Calls.{is_guarded_of, write_run_of, read_run_of, write_register_of, read_register_of, write_bytes_of, read_bytes_of, write_memory_of, memory_after_of, read_memory_of, tick_of}
-use Rattle.declines.specs.Fill.{fill_memory_of, memory_filled_of}
+use Rattle.declines.specs.Calls.{read_register_of}
 use Rattle.calls.proofs.read_register.Goals as goal
 
 pub returns-then-is_spoiled : goal.returns-then-is_spoiled

@@ -2,9 +2,7 @@
 -- First written by tools/prove.py. Assumes nothing.
 use Rattle.declines.specs.Calls.{tick_of}
 use borrow.Author.Tests.{eq-eqb, ne_eqb}
-use Rattle.std.proofs.Common.{rules, ◌≡◌, ℕ, ◌+◌, ◌-◌, ◌*◌, ◌<◌, ◌≤◌, length, ◌/◌, ◌%◌, Bool, true, false, nat_eq, nat_lt, List, [], ◌∷◌, ◌++◌, slice_index_or, slice_set, bit_and, bit_or, Fits, w8, w32, w64, Bor, MutBor}
-use Rattle.declines.specs.Calls.{is_guarded_of, write_run_of, read_run_of, write_register_of, read_register_of, write_bytes_of, read_bytes_of, write_memory_of, memory_after_of, read_memory_of, tick_of}
-use Rattle.declines.specs.Fill.{fill_memory_of, memory_filled_of}
+use Rattle.declines.specs.Calls.{tick_of}
 use Rattle.calls.proofs.tick.Goals as goal
 
 pub returns-then-is_spoiled : goal.returns-then-is_spoiled

@@ -1,7 +1,7 @@
 -- `pace::run_ticks` is safe and ends: i stays at most n, and the ticks that are left become fewer.
 -- Written by hand over the lines that `rt dev` prints. Assumes nothing.
 use Rattle.std.specs.Prelude.{◌-◌, ◌≤◌}
-use Rattle.std.proofs.Common.{◌-◌, ◌≡◌, ℕ, ◌+◌, ◌*◌, ◌<◌, ◌≤◌, length}
+use Rattle.std.proofs.Common.{◌-◌, ◌≤◌}
 use Rattle.pace.proofs.run_ticks.Given as goal
 
 abbrev pub invariant-loop-i : goal.invariant-loop-i

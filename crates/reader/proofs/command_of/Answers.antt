@@ -1,8 +1,7 @@
 -- `reader::command_of` meets its contract: each return is reached by the tests that the definition makes, in the same order.
 -- First written by tools/prove.py. Assumes nothing.
 use Rattle.reader.specs.Reader.{command_of}
-use Rattle.std.proofs.Common.{rules, ◌≡◌, ◌+◌, ◌<◌, ◌≤◌, ◌^◌, length, ℕ, ◌-◌, ◌*◌, ◌/◌, ◌%◌, Bool, true, false, nat_eq, nat_lt, List, [], ◌∷◌, ◌++◌, slice_index_or, slice_set, bit_and, bit_or, Fits, w8, w32, w64, Bor, MutBor}
-use Rattle.reader.specs.Reader.{byte_of, has_digits_of, has_field_of, is_write_register_of, is_read_register_of, is_write_memory_of, is_read_memory_of, is_tick_of, number_at, command_of, line_length_of, first_line_of}
+use Rattle.reader.specs.Reader.{command_of}
 use Rattle.reader.proofs.command_of.Goals as goal
 
 pub returns-then-is_write_register : goal.returns-then-is_write_register

@@ -1,15 +1,15 @@
 -- `reader::number_at` meets its contract. The loop's invariant: the value is the number of the digits passed, and
 -- fits them; the measure is what is left of the count. Written by hand over the lines that `rt dev` prints. Assumes nothing.
-use Prim.Native.Nat.{ℕ, ◌+◌, ◌-◌, ◌<◌, ◌≤◌, ◌*◌, ◌^◌}
-use mathlib.Core.Path.{◌≡◌, refl, ap, ◌∙◌}
+use Prim.Native.Nat.{ℕ, ◌+◌, ◌*◌}
+use mathlib.Core.Path.{refl, ap, ◌∙◌}
 use native.Mathlib.Omega.{arith}
 use native.Mathlib.Nat.{pow-le-pow_right, pow-succ'}
 use native.Mathlib.Numerals.{add-one}
 use lib.Dec.{lit<}
 use Rattle.text.specs.Text.{digit_of}
 use Rattle.reader.specs.Reader.{number_at}
-use Rattle.std.proofs.Common.{rules, ◌≡◌, ◌+◌, ◌<◌, ◌≤◌, ◌^◌, length, ℕ, ◌-◌, ◌*◌, ◌/◌, ◌%◌, Bool, true, false, nat_eq, nat_lt, List, [], ◌∷◌, ◌++◌, slice_index_or, slice_set, bit_and, bit_or, Fits, w8, w32, w64, Bor, MutBor}
-use Rattle.reader.specs.Reader.{byte_of, has_digits_of, has_field_of, is_write_register_of, is_read_register_of, is_write_memory_of, is_read_memory_of, is_tick_of, number_at, command_of, line_length_of, first_line_of}
+use Rattle.std.proofs.Common.{◌+◌, ℕ, ◌*◌}
+use Rattle.reader.specs.Reader.{number_at}
 use Rattle.reader.proofs.number_at.Goals as goal
 
 pub loop-i-init : goal.loop-i-init

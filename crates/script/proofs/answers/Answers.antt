@@ -3,17 +3,14 @@
 use Prim.Native.Nat.{ℕ, ◌+◌}
 use mathlib.Core.Path.{◌≡◌, sym, ap, ◌∙◌}
 use lib.ListN.{length, take, drop}
-use lib.Seq.{length-take-le}
-use borrow.Author.Tests.{not-true, not-false}
 use Rattle.reader.specs.Reader.{lines_of}
 use Rattle.declines.specs.Runs.{fresh_session}
 use Rattle.script.specs.Script.{capacity, is_header_of, answers_from}
 use Rattle.script.proofs.RunLaws.{no_printed, long_script, bad_first, good_first}
-use Rattle.std.proofs.Common.{rules, ◌≡◌, ◌+◌, ◌≤◌, take, drop, length, ℕ, ◌-◌, ◌*◌, ◌<◌, ◌/◌, ◌%◌, Bool, true, false, nat_eq, nat_lt, List, [], ◌∷◌, ◌++◌, slice_index_or, slice_set, bit_and, bit_or, Fits, w8, w32, w64, Bor, MutBor}
-use Rattle.bits.specs.Bytes.{is_same_of}
-use Rattle.declines.specs.Runs.{zero_memory, fresh_session}
+use Rattle.std.proofs.Common.{rules, ◌≡◌, ◌+◌, take, drop, length, ℕ}
+use Rattle.declines.specs.Runs.{fresh_session}
 use Rattle.reader.specs.Reader.{lines_of}
-use Rattle.script.specs.Script.{script_limit, capacity, is_header_of, answers_from, answers_of}
+use Rattle.script.specs.Script.{capacity, is_header_of, answers_from}
 use Rattle.script.proofs.answers.Goals as goal
 
 pub returns-then-script-gt-SCRIPT_LIMIT-clause-out_after : goal.returns-then-script-gt-SCRIPT_LIMIT-clause-out_after
@@ -50,5 +47,5 @@ returns-clause-out_after c =
     let full : length args.out.now ≡ capacity = search rules in
     let first = c.line_length-first.ensures.value in
     let good = sym (ap (λ (n : ℕ). is_header_of (take n args.script.now)) first) ∙ sym c.is_header.ensures ∙ c.if-not-is_header.false in c.run_from.ensures.out_after
-          ∙ ap (λ (n : ℕ). answers_from (lines_of (drop (n + 1) args.script.now)) fresh_session) first
-          ∙ sym (good_first args.script.now c.if-script-gt-SCRIPT_LIMIT.false good)
+    ∙ ap (λ (n : ℕ). answers_from (lines_of (drop (n + 1) args.script.now)) fresh_session) first
+    ∙ sym (good_first args.script.now c.if-script-gt-SCRIPT_LIMIT.false good)

@@ -1,17 +1,12 @@
 -- `script::is_same` meets its contract. The loop's invariant: the two lists are the same if their rests are; the measure
 -- is what is left. Written by hand over the lines that `rt dev` prints. Assumes nothing.
-use Prim.Native.Nat.{◌-◌, ◌<◌, ◌≤◌}
-use mathlib.Core.Path.{◌≡◌, refl, sym, ◌∙◌}
+use Prim.Native.Nat.{◌<◌}
+use mathlib.Core.Path.{sym, ◌∙◌}
 use native.Mathlib.Omega.{arith}
-use lib.ListN.{length, drop}
+use lib.ListN.{length}
 use borrow.Author.Tests.{eq-eqb, ne_eqb}
 use Rattle.script.proofs.HeaderLaws.{same_lengths, same_after, same_fails, same_ends}
-use Rattle.bits.specs.Bytes.{is_same_of}
-use Rattle.std.proofs.Common.{rules, ◌≡◌, ◌+◌, ◌≤◌, take, drop, length, ℕ, ◌-◌, ◌*◌, ◌<◌, ◌/◌, ◌%◌, Bool, true, false, nat_eq, nat_lt, List, [], ◌∷◌, ◌++◌, slice_index_or, slice_set, bit_and, bit_or, Fits, w8, w32, w64, Bor, MutBor}
-use Rattle.bits.specs.Bytes.{is_same_of}
-use Rattle.declines.specs.Runs.{zero_memory, fresh_session}
-use Rattle.reader.specs.Reader.{lines_of}
-use Rattle.script.specs.Script.{script_limit, capacity, is_header_of, answers_from, answers_of}
+use Rattle.std.proofs.Common.{length, ◌<◌}
 use Rattle.script.proofs.is_same.Goals as goal
 
 pub returns-then-a-b : goal.returns-then-a-b

@@ -1,17 +1,11 @@
 -- `script::is_same` meets its contract. The loop's invariant: the two lists are the same if their rests are; the measure
 -- is what is left. Written by hand over the lines that `rt dev` prints. Assumes nothing.
-use Prim.Native.Nat.{◌-◌, ◌<◌, ◌≤◌}
-use mathlib.Core.Path.{◌≡◌, refl, sym, ◌∙◌}
-use native.Mathlib.Omega.{arith}
+use Prim.Native.Nat.{◌-◌, ◌≤◌}
+use mathlib.Core.Path.{◌≡◌}
 use lib.ListN.{length, drop}
-use borrow.Author.Tests.{eq-eqb, ne_eqb}
-use Rattle.script.proofs.HeaderLaws.{same_lengths, same_after, same_fails, same_ends}
 use Rattle.bits.specs.Bytes.{is_same_of}
-use Rattle.std.proofs.Common.{length, ◌-◌, ◌≡◌, ◌+◌, ◌≤◌, take, drop, ℕ, ◌*◌, ◌<◌}
+use Rattle.std.proofs.Common.{length, ◌-◌, ◌≡◌, ◌≤◌, drop}
 use Rattle.bits.specs.Bytes.{is_same_of}
-use Rattle.declines.specs.Runs.{zero_memory, fresh_session}
-use Rattle.reader.specs.Reader.{lines_of}
-use Rattle.script.specs.Script.{script_limit, capacity, is_header_of, answers_from, answers_of}
 use Rattle.script.proofs.is_same.Given as goal
 
 abbrev pub invariant-loop-i : goal.invariant-loop-i

@@ -1,27 +1,19 @@
 -- `script::run_from` meets its contract: what is printed so far, followed by the answers of the lines left, is always
 -- the answer of the whole; a line's answer fits because five bytes are kept for each byte of script left. Written by
 -- tools/prove.py; the answers with a name were written by hand. Assumes nothing.
-use Prim.Native.Nat.{ℕ, ◌+◌, ◌-◌, ◌*◌, ◌≤◌}
-use mathlib.Core.Path.{◌≡◌, sym, ap, ◌∙◌}
-use mathlib.Core.List.{List, ◌++◌, append-nil}
-use native.Mathlib.Omega.{arith}
-use lib.ListN.{length, take, drop, length-drop, length-replicate}
-use lib.Seq.{take_all}
+use Prim.Native.Nat.{◌+◌, ◌-◌, ◌*◌, ◌≤◌}
+use mathlib.Core.Path.{◌≡◌}
+use mathlib.Core.List.{◌++◌}
+use lib.ListN.{length, take, drop}
 use Rattle.declines.specs.Calls.{memory_places}
-use Rattle.reader.specs.Reader.{lines_of, first_line_of}
-use Rattle.declines.specs.Runs.{session, fresh_session}
-use Rattle.script.specs.Script.{script_limit, capacity, line_answer, session_after}
-use Rattle.script.specs.Script.{answers_from}
-use Rattle.text.specs.Page.{page, write}
-use Rattle.reader.specs.declared.Command.{Command}
-use Rattle.reader.specs.declared.Line.{Line}
-use Rattle.reader.proofs.ReaderLaws.{length_at_most}
-use Rattle.script.proofs.RunLaws.{turn_keeps_room, turn_keeps_answers, answers_none}
-use Rattle.std.proofs.Common.{length, ◌-◌, ◌≡◌, ◌+◌, ◌≤◌, take, drop, ℕ, ◌*◌, ◌<◌}
-use Rattle.bits.specs.Bytes.{is_same_of}
-use Rattle.declines.specs.Runs.{zero_memory, fresh_session}
 use Rattle.reader.specs.Reader.{lines_of}
-use Rattle.script.specs.Script.{script_limit, capacity, is_header_of, answers_from, answers_of}
+use Rattle.declines.specs.Runs.{session, fresh_session}
+use Rattle.script.specs.Script.{script_limit, capacity}
+use Rattle.script.specs.Script.{answers_from}
+use Rattle.std.proofs.Common.{length, ◌-◌, ◌≡◌, ◌+◌, ◌≤◌, take, drop, ◌*◌}
+use Rattle.declines.specs.Runs.{fresh_session}
+use Rattle.reader.specs.Reader.{lines_of}
+use Rattle.script.specs.Script.{script_limit, capacity, answers_from}
 use Rattle.script.proofs.run_from.Given as goal
 
 abbrev pub invariant-loop-at : goal.invariant-loop-at

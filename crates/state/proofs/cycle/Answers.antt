@@ -2,19 +2,17 @@
 -- Written by tools/prove.py; the definitions were opened by hand. Assumes nothing.
 use Rattle.bits.specs.Bits.{mask_of}
 use Rattle.state.specs.State.{state_bits_of, state_byte_of}
-use Rattle.std.proofs.Common.{rules}
-use Rattle.std.proofs.Common.{rules, ◌≡◌, ◌<◌, ℕ, ◌+◌, ◌-◌, ◌*◌, ◌≤◌, length, ◌/◌, ◌%◌, Bool, true, false, nat_eq, nat_lt, List, [], ◌∷◌, ◌++◌, slice_index_or, slice_set, bit_and, bit_or, Fits, w8, w32, w64, Bor, MutBor}
-use Rattle.state.specs.State.{state_of, state_byte_of}
+use Rattle.state.specs.State.{state_byte_of}
 use Rattle.state.proofs.cycle.Goals as goal
 
 pub returns-clause-value : goal.returns-clause-value
 unfolding mask_of state_bits_of state_byte_of
 returns-clause-value c = rw (
-    c.mask8.ensures.value,
-    c.is_idle.ensures,
-    c.has_inhibit.ensures,
-    c.has_front_busy.ensures,
-    c.is_clearing.ensures,
-    c.is_ready-ready.ensures,
-    c.bit_at-accept3.ensures,
-  )
+  c.mask8.ensures.value,
+  c.is_idle.ensures,
+  c.has_inhibit.ensures,
+  c.has_front_busy.ensures,
+  c.is_clearing.ensures,
+  c.is_ready-ready.ensures,
+  c.bit_at-accept3.ensures,
+)

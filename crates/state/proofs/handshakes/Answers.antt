@@ -3,16 +3,14 @@
 use Rattle.bits.specs.Bits.{mask_of, tabulate}
 use Rattle.branches.specs.Handshakes.{strobes_of, ands_of, ors_of}
 use Rattle.state.specs.State.{state_bits_of, state_byte_of}
-use Rattle.std.proofs.Common.{rules}
-use Rattle.std.proofs.Common.{rules, ◌≡◌, ◌<◌, ℕ, ◌+◌, ◌-◌, ◌*◌, ◌≤◌, length, ◌/◌, ◌%◌, Bool, true, false, nat_eq, nat_lt, List, [], ◌∷◌, ◌++◌, slice_index_or, slice_set, bit_and, bit_or, Fits, w8, w32, w64, Bor, MutBor}
-use Rattle.state.specs.State.{state_of, state_byte_of}
+use Rattle.state.specs.State.{state_byte_of}
 use Rattle.state.proofs.handshakes.Goals as goal
 
 pub returns-clause-value : goal.returns-clause-value
 unfolding mask_of tabulate strobes_of ands_of ors_of state_bits_of state_byte_of
 returns-clause-value c = rw (
-    c.mask8.ensures.value,
-    c.ors-ors.ensures,
-    c.ands-ands.ensures,
-    c.strobes-strobes.ensures,
-  )
+  c.mask8.ensures.value,
+  c.ors-ors.ensures,
+  c.ands-ands.ensures,
+  c.strobes-strobes.ensures,
+)

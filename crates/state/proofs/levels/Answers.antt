@@ -2,21 +2,19 @@
 -- Written by tools/prove.py; the definitions were opened by hand. Assumes nothing.
 use Rattle.bits.specs.Bits.{mask_of}
 use Rattle.state.specs.State.{state_bits_of, state_byte_of}
-use Rattle.std.proofs.Common.{rules}
-use Rattle.std.proofs.Common.{rules, ◌≡◌, ◌<◌, ℕ, ◌+◌, ◌-◌, ◌*◌, ◌≤◌, length, ◌/◌, ◌%◌, Bool, true, false, nat_eq, nat_lt, List, [], ◌∷◌, ◌++◌, slice_index_or, slice_set, bit_and, bit_or, Fits, w8, w32, w64, Bor, MutBor}
-use Rattle.state.specs.State.{state_of, state_byte_of}
+use Rattle.state.specs.State.{state_byte_of}
 use Rattle.state.proofs.levels.Goals as goal
 
 pub returns-clause-value : goal.returns-clause-value
 unfolding mask_of state_bits_of state_byte_of
 returns-clause-value c = rw (
-    c.mask8.ensures.value,
-    c.has_fail3.ensures,
-    c.has_pass3.ensures,
-    c.has_fail2.ensures,
-    c.has_pass2.ensures,
-    c.bit_at-start3.ensures,
-    c.bit_at-accept2.ensures,
-    c.bit_at-start2.ensures,
-    c.bit_at-ok.ensures,
-  )
+  c.mask8.ensures.value,
+  c.has_fail3.ensures,
+  c.has_pass3.ensures,
+  c.has_fail2.ensures,
+  c.has_pass2.ensures,
+  c.bit_at-start3.ensures,
+  c.bit_at-accept2.ensures,
+  c.bit_at-start2.ensures,
+  c.bit_at-ok.ensures,
+)

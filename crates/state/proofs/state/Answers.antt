@@ -1,9 +1,6 @@
 -- `state::state` meets its contract: four bytes, each above the one before, are the word (`state-of-bytes`).
 -- Written by tools/prove.py; the last line of `returns` by hand. Assumes nothing.
 use Rattle.state.proofs.StateLaws.{state-of-bytes}
-use Rattle.std.proofs.Common.{rules}
-use Rattle.std.proofs.Common.{rules, ◌≡◌, ◌<◌, ℕ, ◌+◌, ◌-◌, ◌*◌, ◌≤◌, length, ◌/◌, ◌%◌, Bool, true, false, nat_eq, nat_lt, List, [], ◌∷◌, ◌++◌, slice_index_or, slice_set, bit_and, bit_or, Fits, w8, w32, w64, Bor, MutBor}
-use Rattle.state.specs.State.{state_of, state_byte_of}
 use Rattle.state.proofs.state.Goals as goal
 
 pub returns : goal.returns

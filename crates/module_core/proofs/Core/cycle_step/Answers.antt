@@ -4,9 +4,6 @@
 use Rattle.sequencer.specs.declared.states.State.TheVariants.{Idle, Delay, Wait2, Wait3}
 use Rattle.sequencer.specs.declared.states.State.TheVariants.{Front, Space, SyncHold, Clear}
 use Rattle.module_core.proofs.CoreCycle.{cycled_by_state}
-use Rattle.std.proofs.Common.{rules, ◌≡◌, ℕ, ◌+◌, ◌-◌, ◌*◌, ◌<◌, ◌≤◌, length, ◌/◌, ◌%◌, Bool, true, false, nat_eq, nat_lt, List, [], ◌∷◌, ◌++◌, slice_index_or, slice_set, bit_and, bit_or, Fits, w8, w32, w64, Bor, MutBor}
-use Rattle.module_core.specs.Core.{tests_of}
-use Rattle.module_core.specs.QuietStep.{cycled_of, main_cycled_of}
 use Rattle.module_core.proofs.Core.cycle_step.Goals as goal
 
 pub returns-in-Idle : goal.returns-in-Idle

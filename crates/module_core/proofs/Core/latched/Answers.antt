@@ -3,8 +3,7 @@
 use Rattle.module_core.specs.Core.{latched_of}
 use Rattle.module_core.proofs.CoreParts.{latched_at_none}
 use borrow.Author.Tests.{ne_eqb}
-use Rattle.std.proofs.Common.{rules, ◌≡◌, ℕ, ◌+◌, ◌-◌, ◌*◌, ◌<◌, ◌≤◌, length, ◌/◌, ◌%◌, Bool, true, false, nat_eq, nat_lt, List, [], ◌∷◌, ◌++◌, slice_index_or, slice_set, bit_and, bit_or, Fits, w8, w32, w64, Bor, MutBor}
-use Rattle.module_core.specs.Core.{fresh_of, reset_of, pulsed_of, is_open_of, is_ready_of, settled_of, latched_of, step_of, lines_out_of, is_active_of}
+use Rattle.module_core.specs.Core.{latched_of}
 use Rattle.module_core.proofs.Core.latched.Goals as goal
 
 pub returns-then-passed-eq0 : goal.returns-then-passed-eq0

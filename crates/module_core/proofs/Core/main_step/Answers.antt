@@ -3,9 +3,6 @@
 use mathlib.Core.Path.{◌∙◌}
 use Rattle.module_core.proofs.CoreCycle.{main_accepts, main_goes_on}
 use borrow.Author.Tests.{eq-eqb, ne_eqb}
-use Rattle.std.proofs.Common.{rules, ◌≡◌, ℕ, ◌+◌, ◌-◌, ◌*◌, ◌<◌, ◌≤◌, length, ◌/◌, ◌%◌, Bool, true, false, nat_eq, nat_lt, List, [], ◌∷◌, ◌++◌, slice_index_or, slice_set, bit_and, bit_or, Fits, w8, w32, w64, Bor, MutBor}
-use Rattle.module_core.specs.Core.{tests_of}
-use Rattle.module_core.specs.QuietStep.{cycled_of, main_cycled_of}
 use Rattle.module_core.proofs.Core.main_step.Goals as goal
 
 pub returns-then-latch-ne0 : goal.returns-then-latch-ne0

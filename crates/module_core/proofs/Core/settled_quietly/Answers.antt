@@ -4,11 +4,7 @@
 use Rattle.module_core.specs.Core.{settled_of}
 use Rattle.registers.specs.Csr.{sync_hold_ended_if_of, user_sync_ended_if_of}
 use Rattle.trigger.specs.Effects.{csr_after_of, sync_after_of}
-use Rattle.std.proofs.Common.{rules, ◌≡◌, ℕ, ◌+◌, ◌-◌, ◌*◌, ◌<◌, ◌≤◌, length, ◌/◌, ◌%◌, Bool, true, false, nat_eq, nat_lt, List, [], ◌∷◌, ◌++◌, slice_index_or, slice_set, bit_and, bit_or, Fits, w8, w32, w64, Bor, MutBor}
-use Rattle.sync.specs.UserSync.{step_by, stays}
-use Rattle.sequencer.specs.MainFields.{quiet}
 use Rattle.module_core.specs.Core.{settled_of}
-use Rattle.module_core.specs.StaysIdle.{has_user_sync_of, stays_idle_of, stayed_idle_of}
 use Rattle.module_core.proofs.Core.settled_quietly.Goals as goal
 
 pub returns : goal.returns

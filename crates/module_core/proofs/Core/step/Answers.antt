@@ -8,8 +8,6 @@ use Rattle.module_core.proofs.CoreParts.{step_by_latched}
 use Rattle.module_core.proofs.CoreCycle.{quiet_is_quiet}
 use Rattle.module_core.proofs.CoreIdle.{stays_idle_by_choices, user_stays}
 use borrow.Author.Tests.{not-true}
-use Rattle.std.proofs.Common.{rules, ◌≡◌, ℕ, ◌+◌, ◌-◌, ◌*◌, ◌<◌, ◌≤◌, length, ◌/◌, ◌%◌, Bool, true, false, nat_eq, nat_lt, List, [], ◌∷◌, ◌++◌, slice_index_or, slice_set, bit_and, bit_or, Fits, w8, w32, w64, Bor, MutBor}
-use Rattle.module_core.specs.Core.{fresh_of, reset_of, pulsed_of, is_open_of, is_ready_of, settled_of, latched_of, step_of, lines_out_of, is_active_of}
 use Rattle.module_core.proofs.Core.step.Goals as goal
 
 pub returns-then-stays_idle : goal.returns-then-stays_idle

@@ -1,9 +1,7 @@
 -- `module_core::Core::tests` meets its contract: the literal is the definition, each test as its call ensures.
 -- First written by tools/prove.py. Assumes nothing.
 use Rattle.module_core.specs.Core.{tests_of}
-use Rattle.std.proofs.Common.{rules, ◌≡◌, ℕ, ◌+◌, ◌-◌, ◌*◌, ◌<◌, ◌≤◌, length, ◌/◌, ◌%◌, Bool, true, false, nat_eq, nat_lt, List, [], ◌∷◌, ◌++◌, slice_index_or, slice_set, bit_and, bit_or, Fits, w8, w32, w64, Bor, MutBor}
 use Rattle.module_core.specs.Core.{tests_of}
-use Rattle.module_core.specs.QuietStep.{cycled_of, main_cycled_of}
 use Rattle.module_core.proofs.Core.tests.Goals as goal
 
 pub returns : goal.returns

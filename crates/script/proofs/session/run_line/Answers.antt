@@ -10,12 +10,10 @@ use Rattle.declines.specs.Runs.{session}
 use Rattle.declines.proofs.BytesCallsLaws.{plain_write_next, plain_write_reply, plain_read_next, plain_read_reply}
 use Rattle.text.specs.Page.{Page, write}
 use Rattle.printer.specs.Printer.{reply_text}
-use Rattle.std.proofs.Common.{rules, ◌≡◌, ◌≤◌, ℕ, ◌+◌, ◌-◌, ◌*◌, ◌<◌, length, ◌/◌, ◌%◌, Bool, true, false, nat_eq, nat_lt, List, [], ◌∷◌, ◌++◌, slice_index_or, slice_set, bit_and, bit_or, Fits, w8, w32, w64, Bor, MutBor}
-use Rattle.declines.specs.Answers.{verdict_reply, reading_reply, tick_reply}
+use Rattle.std.proofs.Common.{◌≡◌, ℕ, List}
 use Rattle.printer.specs.Printer.{reply_text}
 use Rattle.declines.specs.Runs.{session}
-use Rattle.script.specs.Script.{line_answer, session_after}
-use Rattle.text.specs.Page.{page, write}
+use Rattle.text.specs.Page.{write}
 use Rattle.script.proofs.session.run_line.Goals as goal
 
 -- a plain call is that of the whole run
