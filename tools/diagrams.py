@@ -4,7 +4,7 @@
     tools/diagrams.py           rewrites the drawings
     tools/diagrams.py --check   exits 1 if a drawing is not what the tables here draw
 
-Both refuse, with exit 1, a table whose moves are not exactly those of the definitions of sequencer, core and branch.
+Both refuse, with exit 1, a table whose moves are not exactly those of the definitions of sequencer, module_core and branch.
 """
 import re
 import sys
@@ -18,7 +18,7 @@ from svg import Arrow
 
 DEFINITIONS = [
     "crates/sequencer/specs/MainSequencer.antt",
-    "crates/core/specs/Core.antt",
+    "crates/module_core/specs/Core.antt",
     "crates/branch/specs/Branch.antt",
 ]
 EVERY = "every state"
@@ -26,31 +26,31 @@ EVERY = "every state"
 # state, move, state after it, label, sentence. A move that stays is drawn in its box, or not at all if it has no label.
 MAIN = [
     ("Idle", "stays", "Idle", "", "Ready.4"),
-    ("Idle", "acceptedOf", "Delay", "accepts, class 1", "Main.2"),
-    ("Idle", "acceptedOf", "Wait2", "accepts, class 2, 3", "Main.2"),
-    ("Delay", "waitsInDelay", "Delay", "raises what is due", "Main.7"),
-    ("Delay", "endsDelay", "Front", "level 2 and level 3 accept are up, by T2 and T3", "Main.7"),
+    ("Idle", "accepted_of", "Delay", "accepts, class 1", "Main.2"),
+    ("Idle", "accepted_of", "Wait2", "accepts, class 2, 3", "Main.2"),
+    ("Delay", "waits_in_delay", "Delay", "raises what is due", "Main.7"),
+    ("Delay", "ends_delay", "Front", "level 2 and level 3 accept are up, by T2 and T3", "Main.7"),
     ("Wait2", "stays", "Wait2", "", "Main.4"),
-    ("Wait2", "passes2ToDelay", "Delay", "pass, class 2", "Main.4"),
-    ("Wait2", "passes2ToWait3", "Wait3", "pass, class 3", "Main.4"),
-    ("Wait2", "failsLate level2", "Front", "late fail: T1 in use, age ≥ 2 × T1", "Main.6"),
-    ("Wait2", "failsAndClears level2", "Clear", "other fail", "Main.6"),
+    ("Wait2", "passes2_to_delay", "Delay", "pass, class 2", "Main.4"),
+    ("Wait2", "passes2_to_wait3", "Wait3", "pass, class 3", "Main.4"),
+    ("Wait2", "fails_late level2", "Front", "late fail: T1 in use, age ≥ 2 × T1", "Main.6"),
+    ("Wait2", "fails_and_clears level2", "Clear", "other fail", "Main.6"),
     ("Wait3", "stays", "Wait3", "", "Main.5"),
     ("Wait3", "passes3", "Front", "pass", "Main.5"),
-    ("Wait3", "failsLate level3", "Front", "late fail", "Main.6"),
-    ("Wait3", "failsAndClears level3", "Clear", "other fail", "Main.6"),
+    ("Wait3", "fails_late level3", "Front", "late fail", "Main.6"),
+    ("Wait3", "fails_and_clears level3", "Clear", "other fail", "Main.6"),
     ("Front", "stays", "Front", "while busy or T4 runs", "Main.8"),
     ("Front", "loads", "Space", "loads a word without sync", "Main.12"),
     ("Front", "loads", "SyncHold", "loads a word with sync", "Main.12"),
     ("Space", "stays", "Space", "", "Main.13"),
-    ("Space", "leavesSpace", "Idle", "every branch is below its depth", "Main.13"),
+    ("Space", "leaves_space", "Idle", "every branch is below its depth", "Main.13"),
     ("SyncHold", "stays", "SyncHold", "", "Main.14"),
-    ("SyncHold", "endsSyncHold", "Idle", "every branch is empty", "Main.14"),
-    ("Clear", "countsClear", "Clear", "clear count falls to 0", "Main.15"),
+    ("SyncHold", "ends_sync_hold", "Idle", "every branch is empty", "Main.14"),
+    ("Clear", "counts_clear", "Clear", "clear count falls to 0", "Main.15"),
     ("Clear", "stays", "Clear", "", "Main.15"),
-    ("Clear", "endsClear", "Idle", "clear count over, front busy low, T4 over", "Main.15"),
-    (EVERY, "resetOf", "Idle", "RESET leads to Idle", "CSRWrite.2d"),
-    (EVERY, "freshOf", "Idle", "INITIALIZE leads to Idle", "CSRWrite.1"),
+    ("Clear", "ends_clear", "Idle", "clear count over, front busy low, T4 over", "Main.15"),
+    (EVERY, "reset_of", "Idle", "RESET leads to Idle", "CSRWrite.2d"),
+    (EVERY, "fresh_of", "Idle", "INITIALIZE leads to Idle", "CSRWrite.1"),
 ]
 BRANCH = [
     ("Rest", "stays", "Rest", "shows none", "Branches.1"),
@@ -77,23 +77,23 @@ MAIN_DRAWING = Drawing(
     {"Idle": (120, 390), "Delay": (410, 190), "Wait2": (410, 390), "Wait3": (710, 390), "Front": (1010, 190),
      "Space": (710, 70), "Clear": (560, 560), "SyncHold": (710, 680)},
     {
-        ("Idle", "acceptedOf", "Delay"): Arrow([(140, 360), (140, 190), (342, 190)], (240, 182)),
-        ("Idle", "acceptedOf", "Wait2"): Arrow([(188, 390), (342, 390)], (264, 382)),
-        ("Delay", "endsDelay", "Front"): Arrow([(478, 190), (942, 190)], (710, 182)),
-        ("Wait2", "passes2ToDelay", "Delay"): Arrow([(390, 360), (390, 220)], (382, 284), "end", 16),
-        ("Wait2", "passes2ToWait3", "Wait3"): Arrow([(478, 390), (642, 390)], (559, 382)),
-        ("Wait2", "failsLate level2", "Front"): Arrow([(430, 360), (430, 290), (975, 290), (975, 220)], (700, 282)),
-        ("Wait2", "failsAndClears level2", "Clear"): Arrow([(410, 420), (410, 480), (535, 480), (535, 530)], (472, 472)),
+        ("Idle", "accepted_of", "Delay"): Arrow([(140, 360), (140, 190), (342, 190)], (240, 182)),
+        ("Idle", "accepted_of", "Wait2"): Arrow([(188, 390), (342, 390)], (264, 382)),
+        ("Delay", "ends_delay", "Front"): Arrow([(478, 190), (942, 190)], (710, 182)),
+        ("Wait2", "passes2_to_delay", "Delay"): Arrow([(390, 360), (390, 220)], (382, 284), "end", 16),
+        ("Wait2", "passes2_to_wait3", "Wait3"): Arrow([(478, 390), (642, 390)], (559, 382)),
+        ("Wait2", "fails_late level2", "Front"): Arrow([(430, 360), (430, 290), (975, 290), (975, 220)], (700, 282)),
+        ("Wait2", "fails_and_clears level2", "Clear"): Arrow([(410, 420), (410, 480), (535, 480), (535, 530)], (472, 472)),
         ("Wait3", "passes3", "Front"): Arrow([(778, 375), (1010, 375), (1010, 220)], (890, 367)),
-        ("Wait3", "failsLate level3", "Front"): Arrow([(778, 405), (1045, 405), (1045, 220)], (890, 422), gap=16),
-        ("Wait3", "failsAndClears level3", "Clear"): Arrow([(710, 420), (710, 480), (585, 480), (585, 530)], (648, 472)),
+        ("Wait3", "fails_late level3", "Front"): Arrow([(778, 405), (1045, 405), (1045, 220)], (890, 422), gap=16),
+        ("Wait3", "fails_and_clears level3", "Clear"): Arrow([(710, 420), (710, 480), (585, 480), (585, 530)], (648, 472)),
         ("Front", "loads", "Space"): Arrow([(1010, 160), (1010, 70), (778, 70)], (894, 62)),
         ("Front", "loads", "SyncHold"): Arrow([(1078, 190), (1120, 190), (1120, 680), (778, 680)], (944, 672)),
-        ("Space", "leavesSpace", "Idle"): Arrow([(642, 70), (95, 70), (95, 360)], (370, 62)),
-        ("SyncHold", "endsSyncHold", "Idle"): Arrow([(642, 680), (95, 680), (95, 420)], (370, 672)),
-        ("Clear", "endsClear", "Idle"): Arrow([(492, 560), (140, 560), (140, 420)], (310, 552)),
+        ("Space", "leaves_space", "Idle"): Arrow([(642, 70), (95, 70), (95, 360)], (370, 62)),
+        ("SyncHold", "ends_sync_hold", "Idle"): Arrow([(642, 680), (95, 680), (95, 420)], (370, 672)),
+        ("Clear", "ends_clear", "Idle"): Arrow([(492, 560), (140, 560), (140, 420)], (310, 552)),
     },
-    ["From every state {resetOf} and {freshOf}. Where no test is true, main stays in its state.",
+    ["From every state {reset_of} and {fresh_of}. Where no test is true, main stays in its state.",
      "A fail wins over a pass [Main.3]; each wait reads its own level's lines. Age rises in every state but Idle [Main.1]."],
 )
 BRANCH_DRAWING = Drawing(
@@ -134,21 +134,21 @@ def drawing(plan):
 
 def main_edges(sequencer, core):
     """The moves of main, with the accept, which core makes at Idle alone, and RESET and INITIALIZE."""
-    main, core = Machine(sequencer, "State", "withState"), clauses_of(core)
-    body = {name: core[name][0][1] for name in ("isReadyOf", "mainStepOf", "resetOf", "freshOf")}
-    if "enterBy (classInOf word)" not in main.single("acceptedOf") or "main.acceptedOf" not in body["mainStepOf"]:
-        raise Unread("acceptedOf")
-    if not body["isReadyOf"].startswith("isIdle (c .main .state) && "):
-        raise Unread("isReadyOf")
-    yield from main.checked("stepBy")
-    yield from (Edge("Idle", "acceptedOf", after) for after in main.after(main.single("enterBy"), "Idle"))
-    for name in ("resetOf", "freshOf"):
-        if re.search(r"\bmain = main\.idleOf;|▷ withMain main\.idleOf\b", body[name]):
-            yield from (Edge(EVERY, name, after) for after in main.after(main.single("idleOf"), EVERY))
+    main, core = Machine(sequencer, "State", "with_state"), clauses_of(core)
+    body = {name: core[name][0][1] for name in ("is_ready_of", "main_step_of", "reset_of", "fresh_of")}
+    if "enter_by (class_in_of word)" not in main.single("accepted_of") or "main.accepted_of" not in body["main_step_of"]:
+        raise Unread("accepted_of")
+    if not body["is_ready_of"].startswith("is_idle c.main.state && "):
+        raise Unread("is_ready_of")
+    yield from main.checked("step_by")
+    yield from (Edge("Idle", "accepted_of", after) for after in main.after(main.single("enter_by"), "Idle"))
+    for name in ("reset_of", "fresh_of"):
+        if re.search(r"\bmain = main\.idle_of;|▷ with_main main\.idle_of\b", body[name]):
+            yield from (Edge(EVERY, name, after) for after in main.after(main.single("idle_of"), EVERY))
 
 
 def branch_edges(branch):
-    return Machine(branch, "Phase", "withPhase").checked("afterMove")
+    return Machine(branch, "Phase", "with_phase").checked("after_move")
 
 
 def differences(plan, defined):

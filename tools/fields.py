@@ -4,7 +4,7 @@
     tools/fields.py           rewrites the literal of each setter from the fields of its record, as code or antt declares it
     tools/fields.py --check   exits 1 if one is not what the record says
 
-A setter is two lines of crates/*/specs: `abbrev pub withCsr : Csr → Core → Core`, and `withCsr v c = record { .. csr = v; .. }`.
+A setter is two lines of crates/*/specs: `abbrev pub with_csr : Csr → Core → Core`, and `with_csr v c = record { .. csr = v; .. }`.
 Which field it sets is what its literal gives v to. A field more in a record is then one line of code and one run of this tool.
 """
 import re
@@ -12,7 +12,7 @@ import sys
 
 from page import TOP, asks_check, read, write
 
-SETTER = re.compile(r"(?m)^(abbrev pub (with\w+) : .+ → (\w+) → \3\n\2 v (\w+) = record) \{(.*)\}$")
+SETTER = re.compile(r"(?m)^(abbrev pub (with_\w+) : .+ → (\w+) → \3\n\2 v (\w+) = record) \{(.*)\}$")
 STRUCT = re.compile(r"(?m)^pub struct (\w+) \{\n((?:    .*\n)+)\}")
 RECORD = re.compile(r"(?m)^pub record (\w+) : Type 0 where\n((?:  .*\n)+)")
 
@@ -34,7 +34,7 @@ def setter(found, fields, where, faults):
     if len(given) != 1 or given[0] not in fields.get(record, []):
         faults.append(f"{where}: {name} gives v to no field of {record}, or to more than one")
         return found.group(0)
-    values = [f"{field} = {'v' if field == given[0] else f'{held} .{field}'}" for field in fields[record]]
+    values = [f"{field} = {'v' if field == given[0] else f'{held}.{field}'}" for field in fields[record]]
     return f"{head} {{ {'; '.join(values)} }}"
 
 

@@ -14,7 +14,7 @@ from page import TOP, asks_check, keep, read
 
 PAGE = TOP / "docs" / "IMPOSTORS.md"
 HEAD = "## Every edit\n"
-FULL_NAME = re.compile(r"Rattle·(\w+)\.specs\.([A-Z]\w*)\.([A-Za-z][\w′]*)")
+FULL_NAME = re.compile(r"Rattle\.(\w+)\.specs\.([A-Z]\w*)\.([A-Za-z][\w′]*)")
 
 
 def edits():

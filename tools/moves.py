@@ -44,7 +44,7 @@ def constructors(text, name):
 
 def variants(text, name):
     """The variants of a type of the code, from the lines that use them."""
-    lists = re.findall(rf"^use \S*\.{name}\.the-variants\.\{{(.*)\}}$", text, re.M)
+    lists = re.findall(rf"^use \S*\.{name}\.TheVariants\.\{{(.*)\}}$", text, re.M)
     return {word.strip() for line in lists for word in line.split(",")}
 
 
@@ -73,7 +73,7 @@ class Machine:
         return self.defs[name][0][1]
 
     def moves_in(self, body):
-        """The moves that a clause of moveIn can choose; a clause may hand the choice to a definition of its own."""
+        """The moves that a clause of move_in can choose; a clause may hand the choice to a definition of its own."""
         for leaf in leaves(body):
             head = leaf.split()[0]
             if head in self.moves:
@@ -111,7 +111,7 @@ class Machine:
         return states
 
     def body_of(self, table, move):
-        """The clause of a table for a move, (failsLate l) for failsLate level2."""
+        """The clause of a table for a move, (fails_late l) for fails_late level2."""
         constructor = move.split()[0]
         bodies = [body for arguments, body in self.defs[table] if re.match(rf"\(?{constructor}\b", arguments)]
         if len(bodies) != 1:
@@ -120,7 +120,7 @@ class Machine:
 
     def edges(self, table):
         """Each state with each move that can act in it and each state that the move leads to."""
-        for arguments, body in self.defs["moveIn"]:
+        for arguments, body in self.defs["move_in"]:
             state = arguments.split()[0]
             for move in self.moves_in(body):
                 for after in self.after(self.body_of(table, move), state):
@@ -130,5 +130,5 @@ class Machine:
         """The edges, with every state and every move of the definitions among them."""
         edges = set(self.edges(table))
         if {edge.state for edge in edges} != self.states or {edge.move.split()[0] for edge in edges} != self.moves:
-            raise Unread(f"moveIn: not every state and move of the definitions ({table})")
+            raise Unread(f"move_in: not every state and move of the definitions ({table})")
         return edges

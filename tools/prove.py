@@ -2,6 +2,8 @@
 """Writes the routine part of proof files: for each function of a crate that `rt dev` says needs a file, its
 proofs/FUNCTION/Proof.antt.
 
+Of no use with today's kit: it wrote the form of rattle-kit-5b-plain; `rt check --start F --allow-holes` writes the files of F now.
+
     tools/prove.py CRATE     a file that is there already is left alone
 
 The file has the lines that rt prints, each `returns` that `search` leaves answered by `rw (what the calls ensure, the tests)`.

@@ -1,7 +1,7 @@
 #!/usr/bin/env python3
 """Respells the definitions and lemmas of specs/ and proofs/: words in snake case, as today's Rattle spells them.
 
-usage: tools/respell.py [FOLDER]   once, at the top of a checkout (or of FOLDER), after /opt/rattle/port/port.py
+usage: tools/respell.py [FOLDER]   once, at the top of a checkout (or of FOLDER), after the kit's port/port.py
 
 `acceptIn` becomes `accept_in`, and `accept-raises` becomes `accept_raises`. A lemma that would have the name of a definition
 gets `_lem`. Names of src/, of types, modules and facts (which begin with a capital), and of the library stay. Files are

@@ -136,11 +136,11 @@ class Console(unittest.TestCase):
     def test_failures(self):
         done = ran(TOP / "console", TOP)
         self.assertEqual((done.returncode, done.stdout), (1, ""))
-        self.assertIn("standard input: ", done.stderr)
+        self.assertIn("Error: Os { code: 21,", done.stderr)
         with open("/dev/full", "wb") as full:
             done = subprocess.run([TOP / "console", FIRST], stdout=full, stderr=subprocess.PIPE)
         self.assertEqual(done.returncode, 1)
-        self.assertIn(b"standard output: ", done.stderr)
+        self.assertIn(b"Error: Os { code: 28,", done.stderr)
         self.assertEqual(ran(TOP / "console", "no such file").returncode, 1)
 
     def test_words(self):
@@ -197,14 +197,14 @@ class Edits(unittest.TestCase):
         self.assertFalse(impostors.fits(two.format("no such text"), TOP / "crates" / "bits"))
 
     def test_unknown(self):
-        self.assertEqual(list(impostors.unknown("new: Rattle·bits.specs.Bits.bitAt w 1")), [])
-        self.assertEqual(list(impostors.unknown("new: Rattle·bits.specs.Bits.bitOf w 1")), ["bits/specs/Bits, bitOf"])
+        self.assertEqual(list(impostors.unknown("new: Rattle.bits.specs.Bits.bit_at w 1")), [])
+        self.assertEqual(list(impostors.unknown("new: Rattle.bits.specs.Bits.bit_of w 1")), ["bits/specs/Bits, bit_of"])
 
 
 class Setters(unittest.TestCase):
     """A setter lists the fields of its record, and sets the one that its literal gave v to."""
 
-    OLD = "abbrev pub withLen : ℕ → Branch → Branch\nwithLen v b = record { %s }\n"
+    OLD = "abbrev pub with_len : ℕ → Branch → Branch\nwith_len v b = record { %s }\n"
 
     def made(self, literal):
         faults = []
@@ -212,13 +212,13 @@ class Setters(unittest.TestCase):
         return fields.setter(found, {"Branch": ["words", "len"]}, "x", faults), faults
 
     def test_fields(self):
-        right = (self.OLD % "words = b .words; len = v").rstrip("\n")
+        right = (self.OLD % "words = b.words; len = v").rstrip("\n")
         self.assertEqual(self.made("len = v"), (right, []))
-        self.assertEqual(self.made("phase = b .phase; len = v; words = b .words"), (right, []))
+        self.assertEqual(self.made("phase = b.phase; len = v; words = b.words"), (right, []))
 
     def test_refused(self):
-        for literal in ("phase = v", "words = b .words", "words = v; len = v"):
-            self.assertEqual(self.made(literal)[1], ["x: withLen gives v to no field of Branch, or to more than one"])
+        for literal in ("phase = v", "words = b.words", "words = v; len = v"):
+            self.assertEqual(self.made(literal)[1], ["x: with_len gives v to no field of Branch, or to more than one"])
 
 
 class Requests(unittest.TestCase):
