@@ -1,6 +1,6 @@
 -- Examples of where the pass count of input 1 is owed, as a table of logs.
 --     document 02    N4
---     owed_logs       what a bystander logs, row by row; owedAfter: whether the pass count is owed then
+--     owed_logs       what a bystander logs, row by row; owed_after: whether the pass count is owed then
 --     owed_answers    what each row says
 -- Own rules of 02 used here: none. Decisions: R7. Left out: nothing.
 -- Assumes nothing.

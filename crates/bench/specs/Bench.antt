@@ -2,7 +2,7 @@
 --     document 01   "Bench examples P1–P9"; document 02, N1
 --     Example       a row: given these asks, ask those, look at this in each reply to those, see these numbers
 --     p1 .. p9_declined   the rows, one for each thing that a sentence says, by the number of its example
---     examples      the table; allRight: each row sees what it says
+--     examples      the table; all_right: each row sees what it says
 -- Where a row has pulses they are of input 1: a mask is then 1 or 0. The n-th tick after an accept is made at age n ([Main.1]).
 -- Own rules of 01 used here: fail beats pass; the lowest class bit decides, and no class is not OK. Decisions: none.
 -- Left out: the misreadings, in proofs/Misreadings.

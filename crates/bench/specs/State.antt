@@ -79,8 +79,8 @@ abbrev pub shows_wait3 : Example
 shows_wait3 = after passed2 shows 0 ∷ 1 ∷ 2 ∷ 4 ∷ 5 ∷ 13 ∷ 14 ∷ 16 ∷ 18 ∷ none_enabled
 
 -- [State.6] a line is shown in a state that does not ask for it
-abbrev pub shows_aLine_not_asked : Example
-shows_aLine_not_asked = after passed2 ++ lines fail2 ∷ [] shows 0 ∷ 1 ∷ 3 ∷ 4 ∷ 5 ∷ 13 ∷ 14 ∷ 16 ∷ 18 ∷ none_enabled
+abbrev pub shows_a_line_not_asked : Example
+shows_a_line_not_asked = after passed2 ++ lines fail2 ∷ [] shows 0 ∷ 1 ∷ 3 ∷ 4 ∷ 5 ∷ 13 ∷ 14 ∷ 16 ∷ 18 ∷ none_enabled
 
 abbrev pub shows_front : Example
 shows_front =
@@ -175,7 +175,7 @@ state_examples =
     ∷ is_not_written ∷ is_not_written_while_active ∷ write_sets_no_status
     ∷ ready_with_go ∷ busy_by_front_busy ∷ busy_by_inhibit ∷ ready_by_override
     ∷ busy_while_blind ∷ latched_falls ∷ ready_after_blind
-    ∷ shows_wait2 ∷ shows_wait3 ∷ shows_aLine_not_asked ∷ shows_front ∷ shows_clear
+    ∷ shows_wait2 ∷ shows_wait3 ∷ shows_a_line_not_asked ∷ shows_front ∷ shows_clear
     ∷ wanted_is_not_shown ∷ tag_shows ∷ locked_branch_is_full ∷ strobes_show ∷ empty_at_drop ∷ sync_ends
     ∷ sync_hold_shows ∷ one_is_full
     ∷ each_branch_its_own ∷ enabled_at_the_read ∷ not_enabled_is_not_asked

@@ -3,7 +3,7 @@
 -- module has four.
 --     document 01     "The tick", Branches; "The tick", Main for the two facts that main asks; Active; Spoiled
 --     document 02     N2, the kept acknowledges; N5, a held tick
---     is_empty_of       every branch is empty; hasRoomOf: every branch is below its depth
+--     is_empty_of       every branch is empty; has_room_of: every branch is below its depth
 --     is_quiet_of       no branch keeps the record active
 --     branches_after_of, sides_after_of   a tick of all branches, and what each finished and shows; acks and enabled give the
 --                     lines of a place, whatever words they come from

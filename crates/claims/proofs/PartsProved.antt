@@ -42,8 +42,8 @@ place_for_each_pattern = calls.place_for_each_pattern
 pub write_leaves_other_places : WriteLeavesOtherPlaces
 write_leaves_other_places = calls.write_leaves_other_places
 
-pub assign_declines_40_to_4_f : AssignDeclines40To4F
-assign_declines_40_to_4_f = registers.assign_declines_40_to_4_f
+pub assign_declines_40_to_4f : AssignDeclines40To4F
+assign_declines_40_to_4f = registers.assign_declines_40_to_4f
 
 pub assign_declines_60_up : AssignDeclines60Up
 assign_declines_60_up = registers.assign_declines_60_up

@@ -14,7 +14,7 @@
 --     fill_memory            declines/specs/Fill, fill_memory_of, and memory_filled_of for the memory after it
 --     tick                   declines/specs/Calls, tick_of; the memory is lent for reading only
 -- The console's contract is proved in `script`, for every script:
---     answers                script/specs/Script, answersOf: the bytes printed, which always fit; the rest of the buffer
+--     answers                script/specs/Script, answers_of: the bytes printed, which always fit; the rest of the buffer
 --                            is left open
 -- That a function is proved says besides that it does nothing undefined and that it ends.
 -- Assumes nothing.

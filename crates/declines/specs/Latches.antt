@@ -1,9 +1,9 @@
 -- The latches of the scalers, and reads by a run of bytes, as a user meets them.
 --     document 02     N4
---     cut_reply        a reply that gives a value, cut to a run; isScaler: only a scaler is read otherwise
+--     cut_reply        a reply that gives a value, cut to a run; is_scaler: only a scaler is read otherwise
 --     keeps_value      a register that reads what was written
---     latch_at         the value last latched of a scaler; scalerAt: its value
---     with_latched     the record with a scaler latched; withoutLatches: all of a record but the latches
+--     latch_at         the value last latched of a scaler; scaler_at: its value
+--     with_latched     the record with a scaler latched; without_latches: all of a record but the latches
 --     leaves_latch     a call that neither reads that scaler with BYTE(3) nor asks for INITIALIZE
 --     LatchStands     such calls leave it as it is: all of them, refused ones among them
 -- Own rules of 02 used here: none. Decisions: R7. Left out: nothing.

@@ -1,7 +1,7 @@
 -- What a bystander follows of the two modes and of what waits of TEST, from the writes that were carried out and from the ticks.
 --     document 02    N5
 --     Modes          hold, test mode, and the bits of TEST that wait
---     after_write     after a register write that was carried out; afterTick: after a tick
+--     after_write     after a register write that was carried out; after_tick: after a tick
 --     runs           whether the next tick runs
 --     modes_of, modes_in   what a core and a record have of them
 --     FollowsTheModes   that the two agree, after every list of calls from a fresh supervisor

@@ -3,7 +3,7 @@
 --     fate_of           what becomes of an input's pulse, from the tests of the tick
 --     counter_after     the counter after it
 --     step_of           the bank after a tick's counted pulses, with the masks stopped, scaled and passed
---     with_factor_of     a factor written; reloadedOf: every counter loaded
+--     with_factor_of     a factor written; reloaded_of: every counter loaded
 --     PassCount        how many pulses have passed, what the laws keep
 -- Bit i and place i are input i + 1.
 -- Own rules of 01 used here: none. Decisions: T7, R7, R8. Left out: which pulses are counted, in registers.

@@ -1,7 +1,7 @@
 -- Laws of the registers by number and of the values that they take.
 --     factor-, timer-, interval_fits_iff_no_bit_outside   the width law of bits, at 20, 14, 16 and 8 bits
 --     control-, test_fits_iff_no_bit_outside    the mask law of bits
---     assign_declines_40_to_4_f, assign_declines_60_up     the codes that 01 does not list
+--     assign_declines_40_to_4f, assign_declines_60_up     the codes that 01 does not list
 --     Between, Named, number_names       the numbers of each kind of register: the walk that the others go by
 --     past_last_is_absent                a number past the last names no register
 --     facts_by_number                    the facts of a number's register, by comparisons of the number
@@ -48,8 +48,8 @@ test_fits_iff_no_bit_outside v = only_iff_no_bit_outside test_bits v
 
 -- ---- the codes that are not listed
 
-pub assign_declines_40_to_4_f : (v : ℕ) → 64 ≤ v → v < 80 → is_valid_assign v ≡ false
-assign_declines_40_to_4_f v h k = rw (lt-leb v 63 h, lt-leb 80 v k)
+pub assign_declines_40_to_4f : (v : ℕ) → 64 ≤ v → v < 80 → is_valid_assign v ≡ false
+assign_declines_40_to_4f v h k = rw (lt-leb v 63 h, lt-leb 80 v k)
 
 pub assign_declines_60_up : (v : ℕ) → 96 ≤ v → is_valid_assign v ≡ false
 assign_declines_60_up v h = rw (lt-leb v 63 (omega arith), le-leb 80 v (omega arith), lt-leb v 95 h)

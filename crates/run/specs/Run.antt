@@ -1,10 +1,10 @@
 -- A run of neighbours among the four bytes of a word: which bytes it holds, and the word that it makes of two.
 --     document 02      N4; source document 001: BYTE(0) is the highest byte
 --     is_run_of          it is one: neither empty nor past the four bytes
---     holds_byte        BYTE(b) is in it; holdsBit: the byte of bit i is
+--     holds_byte        BYTE(b) is in it; holds_bit: the byte of bit i is
 --     has_byte3         it holds BYTE(3): such a write loads a counter or zeroes a scaler, such a read latches a scaler
 --     overlaid_of       its bytes of a value, the other bytes of an old one; cut_of: its bytes alone
---     ten_runs          all of them; isIn: one of a list
+--     ten_runs          all of them; is_in: one of a list
 -- Own rules of 02 used here: none. Decisions: R7. Left out: nothing.
 -- Assumes nothing.
 use Rattle.std.specs.Prelude.{ℕ, ◌+◌, ◌-◌, ◌/◌, Bool, false, ◌&&◌, ◌||◌, List, [], ◌∷◌, eqb, ltb, leb}

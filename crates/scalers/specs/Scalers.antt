@@ -2,7 +2,7 @@
 --     document 01    "Registers": scalers, assign; document 02, N4
 --     counts_of       scaler 1 counts this tick, by its assign code
 --     counted_of      both scalers after a tick
---     zeroed_of       a scaler written; latchedOf: its value latched; latchOf: the value last latched
+--     zeroed_of       a scaler written; latched_of: its value latched; latch_of: the value last latched
 -- Own rules of 01 used here: level fails count where a wait acts on them, late ones too. Decisions: C1, C2, R7.
 -- Left out: nothing.
 -- Assumes nothing.

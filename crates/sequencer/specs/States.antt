@@ -2,7 +2,7 @@
 --     document 01    "The tick", Main; "The account of demand 3"; document 02, N2
 --     facts_of        one table of facts, a row for each state
 --     is_idle, is_undecided, is_loaded, is_wait2, is_sync_hold   its columns by name
---     outcome_words   the word that an outcome loads; is_cleared, is_event, isTag: which outcome it is
+--     outcome_words   the word that an outcome loads; is_cleared, is_event, is_tag: which outcome it is
 -- Own rules of 01 used here: none. Decisions: none. Left out: nothing.
 -- Assumes nothing.
 use Rattle.std.specs.Prelude.{ℕ, Bool, true, false, List, [], ◌∷◌}

@@ -1,7 +1,7 @@
 -- The STATE register: what a read of register 20 shows, bit by bit.
 --     document 02     N2; source document 001, section 3.11
 --     state_bits_of     the 32 tests, bit 0 first, each by its name in section 3.11
---     state_of         the word that they make; stateByteOf: its bytes
+--     state_of         the word that they make; state_byte_of: its bytes
 --     LatestTick, latest_tick_in   what a record keeps of the latest tick
 --     ShowsTick       that STATE shows what was in force in a tick, and whether it latched a pattern
 -- The lines and the latched trigger are those of the latest tick that ran, as are the acknowledges, as they were in force in it

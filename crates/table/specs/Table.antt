@@ -1,6 +1,6 @@
 -- The table that fills the memory from twelve words, one for each input: the word at every place.
 --     document 02    N7
---     is_taken_word    a word that the generator takes; areTaken: all twelve are
+--     is_taken_word    a word that the generator takes; are_taken: all twelve are
 --     lowest_of, some_of   the lowest index at which a test holds; whether it holds at any
 --     table_word_of    the word at a place
 --     table_of        the words at the first places: at all 4,096 of the memory

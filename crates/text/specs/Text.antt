@@ -3,7 +3,7 @@
 --     tab, newline, space   the bytes that part fields and lines
 --     hex_digit        the byte of one hexadecimal digit, a capital above 9
 --     hex n v         n such digits of v, the highest first
---     is_digit_of       whether a byte is such a digit; digitOf: its value
+--     is_digit_of       whether a byte is such a digit; digit_of: its value
 -- Own rules of 01 used here: none. Decisions: none. Left out: nothing.
 -- Assumes nothing.
 use Rattle.std.specs.Prelude.{ℕ, zero, suc, ◌+◌, ◌-◌, ◌/◌, ◌%◌, ◌^◌, Bool, ◌&&◌, ◌||◌, List, [], ◌∷◌, ltb, leb}

@@ -1,6 +1,6 @@
 -- The timers: two units of time, each with its own ticks, and the tests that Main makes with them.
 --     document 01      "Registers", the widths; "The tick", Main
---     count40_ticks_of   the ticks of a count of 40 ns; count20TicksOf: of a count of 20 ns
+--     count40_ticks_of   the ticks of a count of 40 ns; count20_ticks_of: of a count of 20 ns
 --     written_of, stored_of   a timer written and read by its number
 --     is_reached        an age has reached a count of 40 ns
 --     is_late_due        T1 is in use and reached: a fail is late

@@ -1,7 +1,7 @@
 -- The latch of a tick: the memory's word for a pattern, what becomes of the passed pulses, and the masks of the answer.
 --     document 01    "Registers", Memory; "The tick", Ready; "The answer"
 --     word_at_of       the memory's word for a pattern
---     latch_of        the passed pulses: lost, rejected or accepted; noLatch: there are none
+--     latch_of        the passed pulses: lost, rejected or accepted; no_latch: there are none
 --     masks_of        the five masks
 -- Own rules of 01 used here: none. Decisions: T2. Left out: nothing.
 -- Assumes nothing.

@@ -1,6 +1,4 @@
--- `access::after_read` meets its contract: one arm for each register; a scaler is latched or not.
--- First written by tools/prove.py. Assumes nothing.
-use Rattle.access.specs.Access.{after_read_of}
+-- `access::after_read` meets its contract: one arm for each register; a scaler is latched or not. Assumes nothing.
 use Rattle.access.specs.Access.{after_read_of}
 use Rattle.access.proofs.after_read.Goals as goal
 

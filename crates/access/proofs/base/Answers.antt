@@ -1,6 +1,4 @@
--- `access::base` meets its contract: one arm for each register.
--- First written by tools/prove.py. Assumes nothing.
-use Rattle.access.specs.Access.{base_of}
+-- `access::base` meets its contract: one arm for each register. Assumes nothing.
 use Rattle.access.specs.Access.{base_of}
 use Rattle.access.proofs.base.Goals as goal
 

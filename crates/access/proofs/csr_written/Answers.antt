@@ -1,6 +1,4 @@
--- `access::csr_written` meets its contract: the CSR's own write, then what it asks.
--- First written by tools/prove.py. Assumes nothing.
-use Rattle.access.specs.Access.{csr_written_of}
+-- `access::csr_written` meets its contract: the CSR's own write, then what it asks. Assumes nothing.
 use Rattle.access.specs.Access.{csr_written_of}
 use Rattle.access.proofs.csr_written.Goals as goal
 

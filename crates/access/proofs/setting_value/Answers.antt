@@ -1,6 +1,4 @@
--- `access::setting_value` meets its contract: one arm for each setting.
--- First written by tools/prove.py. Assumes nothing.
-use Rattle.access.specs.Access.{setting_of}
+-- `access::setting_value` meets its contract: one arm for each setting. Assumes nothing.
 use Rattle.access.specs.Access.{setting_of}
 use Rattle.access.proofs.setting_value.Goals as goal
 

@@ -1,6 +1,4 @@
--- `access::setting_written` meets its contract: one arm for each setting.
--- First written by tools/prove.py. Assumes nothing.
-use Rattle.access.specs.Access.{setting_written_of}
+-- `access::setting_written` meets its contract: one arm for each setting. Assumes nothing.
 use Rattle.access.specs.Access.{setting_written_of}
 use Rattle.access.proofs.setting_written.Goals as goal
 

@@ -1,6 +1,4 @@
--- `access::shown` meets its contract: one arm for each register.
--- First written by tools/prove.py. Assumes nothing.
-use Rattle.access.specs.Access.{shown_of}
+-- `access::shown` meets its contract: one arm for each register. Assumes nothing.
 use Rattle.access.specs.Access.{shown_of}
 use Rattle.access.proofs.shown.Goals as goal
 

@@ -1,6 +1,4 @@
--- `access::written` meets its contract: one arm for each register.
--- First written by tools/prove.py. Assumes nothing.
-use Rattle.access.specs.Access.{written_of}
+-- `access::written` meets its contract: one arm for each register. Assumes nothing.
 use Rattle.access.specs.Access.{written_of}
 use Rattle.access.proofs.written.Goals as goal
 

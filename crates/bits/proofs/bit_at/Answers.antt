@@ -1,5 +1,5 @@
 -- `bits::bit_at` meets its contract: below 32 the shift gives the bit; above, by the width law, there is none.
--- Printed by rt dev; `returns-2` was written by hand. Assumes nothing.
+-- Assumes nothing.
 use Prim.Native.Nat.{◌^◌}
 use mathlib.Core.Path.{sym}
 use borrow.Author.Tests.{lt-ltb}

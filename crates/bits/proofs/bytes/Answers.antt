@@ -1,5 +1,5 @@
--- `bits::bytes` meets its contract: a shift and its mask are the byte that a division gives, by one law over the shift.
--- First written by tools/prove.py. Assumes nothing.
+-- `bits::bytes` meets its contract: a shift and its mask are the byte that a division gives, by one law over the
+-- shift. Assumes nothing.
 use native.Mathlib.Nat.{div-one}
 use Rattle.bits.specs.Bits.{tabulate}
 use Rattle.bits.proofs.BytesLaws.{shift_is_byte}

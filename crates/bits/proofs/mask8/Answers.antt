@@ -1,8 +1,6 @@
--- `bits::mask8` meets its contract: the sum of the eight digits is the mask, digit by digit.
--- Written by tools/prove.py; `returns` was written by hand. Assumes nothing.
+-- `bits::mask8` meets its contract: the sum of the eight digits is the mask, digit by digit. Assumes nothing.
 use Rattle.bits.specs.Bits.{mask_of}
 use native.Mathlib.Omega.{arith}
-use Rattle.bits.specs.Bits.{mask_of}
 use Rattle.bits.proofs.mask8.Goals as goal
 
 pub returns-clause-value : goal.returns-clause-value

@@ -1,6 +1,5 @@
--- `branch::are_unused_zero` meets its contract: two shifts by half ask whether the number has no more
--- than len bytes (`shift_is_below`).
--- Written by hand over the lines that `rt dev` prints. Assumes nothing.
+-- `branch::are_unused_zero` meets its contract: two shifts by half ask whether the number has no more than len bytes
+-- (`shift_is_below`). Assumes nothing.
 use Prim.Native.Nat.{◌%◌}
 use Rattle.bits.proofs.BytesLaws.{shift_is_below}
 use Rattle.std.proofs.Common.{◌%◌}

@@ -1,5 +1,5 @@
 -- `branch::put` meets its contract: a shift by 8 bits a place puts the byte above the others (`shift_is_put`).
--- Written by hand over the lines that `rt dev` prints. Assumes nothing.
+-- Assumes nothing.
 use Prim.Native.Nat.{◌%◌}
 use native.Mathlib.Omega.{arith}
 use Rattle.bits.proofs.BytesLaws.{shift_is_put}

@@ -1,6 +1,4 @@
--- `branches::gathered` meets its contract: the literal is the definition, field by field.
--- First written by tools/prove.py. Assumes nothing.
-use Rattle.branches.specs.Readout.{gathered_of}
+-- `branches::gathered` meets its contract: the literal is the definition, field by field. Assumes nothing.
 use Rattle.branches.specs.Readout.{gathered_of}
 use Rattle.branches.proofs.gathered.Goals as goal
 

@@ -1,5 +1,5 @@
--- `calls::fill_memory` meets its contract: each return is reached by the tests that the definition makes, in the same order,
--- and the memory follows from the answer. First written by tools/prove.py; the memory was added by hand. Assumes nothing.
+-- `calls::fill_memory` meets its contract: each return is reached by the tests that the definition makes, in the same
+-- order, and the memory follows from the answer. Assumes nothing.
 use Prim.Native.Nat.{ℕ}
 use mathlib.Core.Path.{◌≡◌, ap, ◌∙◌}
 use borrow.Author.Tests.{eq-eqb, ne_eqb}
@@ -12,7 +12,6 @@ use Rattle.declines.specs.Calls.{marked_of}
 use Rattle.declines.specs.Fill.{refuse_fill, fill_memory_of}
 use Rattle.declines.proofs.FillLaws.{refused_fills_nothing, done_fills}
 use Rattle.std.proofs.Common.{◌≡◌, ℕ}
-use Rattle.declines.specs.Fill.{fill_memory_of}
 use Rattle.calls.proofs.fill_memory.Goals as goal
 
 pub returns-then-is_spoiled-clause-value : goal.returns-then-is_spoiled-clause-value

@@ -1,8 +1,7 @@
--- `calls::read_memory` meets its contract: each return is reached by the tests that the definition makes, in the same order.
--- First written by tools/prove.py. Assumes nothing.
+-- `calls::read_memory` meets its contract: each return is reached by the tests that the definition makes, in the same
+-- order. Assumes nothing.
 use Rattle.declines.specs.Calls.{read_memory_of}
 use borrow.Author.Tests.{eq-eqb, le-leb, lt-leb, ne_eqb}
-use Rattle.declines.specs.Calls.{read_memory_of}
 use Rattle.calls.proofs.read_memory.Goals as goal
 
 pub returns-then-is_spoiled : goal.returns-then-is_spoiled

@@ -1,6 +1,5 @@
--- `calls::read_register` meets its contract: each return is reached by the tests that the definition makes, in the same order.
--- First written by tools/prove.py; the direction of some facts was changed by hand. Assumes nothing.
-use Rattle.declines.specs.Calls.{read_register_of}
+-- `calls::read_register` meets its contract: each return is reached by the tests that the definition makes, in the
+-- same order. Assumes nothing.
 use Rattle.declines.specs.Calls.{read_register_of}
 use Rattle.calls.proofs.read_register.Goals as goal
 

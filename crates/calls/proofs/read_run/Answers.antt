@@ -1,6 +1,4 @@
--- `calls::read_run` meets its contract: what is shown after the read, cut to the run.
--- First written by tools/prove.py. Assumes nothing.
-use Rattle.declines.specs.Calls.{read_run_of}
+-- `calls::read_run` meets its contract: what is shown after the read, cut to the run. Assumes nothing.
 use Rattle.declines.specs.Calls.{read_run_of}
 use Rattle.calls.proofs.read_run.Goals as goal
 

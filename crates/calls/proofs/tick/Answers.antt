@@ -1,8 +1,7 @@
 -- `calls::tick` meets its contract: each return is reached by the tests that the definition makes, in the same order.
--- First written by tools/prove.py. Assumes nothing.
+-- Assumes nothing.
 use Rattle.declines.specs.Calls.{tick_of}
 use borrow.Author.Tests.{eq-eqb, ne_eqb}
-use Rattle.declines.specs.Calls.{tick_of}
 use Rattle.calls.proofs.tick.Goals as goal
 
 pub returns-then-is_spoiled : goal.returns-then-is_spoiled

@@ -1,8 +1,7 @@
--- `calls::write_memory` meets its contract: each return is reached by the tests that both definitions make, in the same order.
--- Written by tools/prove.py; each answer was given twice, for the record and for the memory. Assumes nothing.
+-- `calls::write_memory` meets its contract: each return is reached by the tests that both definitions make, in the
+-- same order. Assumes nothing.
 use Rattle.declines.specs.Calls.{write_memory_of, memory_after_of}
 use borrow.Author.Tests.{eq-eqb, le-leb, lt-leb, ne_eqb}
-use Rattle.declines.specs.Calls.{write_memory_of, memory_after_of}
 use Rattle.calls.proofs.write_memory.Goals as goal
 
 pub returns-then-is_spoiled-clause-value : goal.returns-then-is_spoiled-clause-value

@@ -1,6 +1,5 @@
 -- `harness::run_calls` is safe and ends: i stays at most count, a quarter of the list's length, and no slice changes
--- its length; the calls that are left become fewer.
--- Written by hand over the lines that `rt dev` prints. Assumes nothing.
+-- its length; the calls that are left become fewer. Assumes nothing.
 use mathlib.Core.Path.{◌≡◌}
 use Prim.Native.Nat.{◌≤◌, ◌-◌}
 use lib.ListN.{length}

@@ -1,5 +1,4 @@
--- `pace::run_ticks` is safe and ends: i stays at most n, and the ticks that are left become fewer.
--- Written by hand over the lines that `rt dev` prints. Assumes nothing.
+-- `pace::run_ticks` is safe and ends: i stays at most n, and the ticks that are left become fewer. Assumes nothing.
 use Rattle.std.specs.Prelude.{◌-◌, ◌≤◌}
 use Rattle.std.proofs.Common.{◌-◌, ◌≤◌}
 use Rattle.pace.proofs.run_ticks.Given as goal

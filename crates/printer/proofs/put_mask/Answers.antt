@@ -1,10 +1,8 @@
 -- `printer::put_mask` meets its contract: the digits, then the space; two writes are the write of their join
--- (`write_append`). Written by tools/prove.py; `returns` was changed by hand. Assumes nothing.
+-- (`write_append`). Assumes nothing.
 use Rattle.text.specs.Page.{write}
 use Rattle.text.proofs.PageLaws.{write_append}
 use Rattle.printer.specs.TickParts.{mask_part}
-use Rattle.printer.specs.TickParts.{mask_part}
-use Rattle.text.specs.Page.{write}
 use Rattle.printer.proofs.put_mask.Goals as goal
 
 pub returns : goal.returns

@@ -1,7 +1,6 @@
--- `printer::put_masks` meets its contract: five masks one after the other; the writes are the write of their
--- join (`write_5`). Written by tools/prove.py; `returns` was changed by hand. Assumes nothing.
+-- `printer::put_masks` meets its contract: five masks one after the other; the writes are the write of their join
+-- (`write_5`). Assumes nothing.
 use Rattle.text.proofs.PageLaws.{write_5}
-use Rattle.printer.specs.TickParts.{masks_part}
 use Rattle.printer.specs.TickParts.{masks_part}
 use Rattle.printer.proofs.put_masks.Goals as goal
 

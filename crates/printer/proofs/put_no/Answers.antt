@@ -1,6 +1,4 @@
--- `printer::put_no` meets its contract: five bytes one after the other, which `write` takes in turn. First written by
--- tools/prove.py. Assumes nothing.
-use Rattle.text.specs.Page.{write}
+-- `printer::put_no` meets its contract: five bytes one after the other, which `write` takes in turn. Assumes nothing.
 use Rattle.text.specs.Page.{write}
 use Rattle.printer.proofs.put_no.Goals as goal
 

@@ -1,6 +1,5 @@
--- `printer::put_ok` meets its contract: three bytes one after the other, which `write` takes in turn. First written
--- by tools/prove.py. Assumes nothing.
-use Rattle.text.specs.Page.{write}
+-- `printer::put_ok` meets its contract: three bytes one after the other, which `write` takes in turn. Assumes
+-- nothing.
 use Rattle.text.specs.Page.{write}
 use Rattle.printer.proofs.put_ok.Goals as goal
 

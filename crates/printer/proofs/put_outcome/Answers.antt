@@ -1,6 +1,5 @@
 -- `printer::put_outcome` meets its contract: in each case of the outcome its letter is written, then its word.
--- First written by tools/prove.py. Assumes nothing.
-use Rattle.text.specs.Page.{write}
+-- Assumes nothing.
 use Rattle.text.specs.Page.{write}
 use Rattle.printer.proofs.put_outcome.Goals as goal
 

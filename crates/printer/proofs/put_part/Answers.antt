@@ -1,9 +1,6 @@
--- `printer::put_part` meets its contract: the space, then the slot, which `write` takes in turn. First written by
--- tools/prove.py. Assumes nothing.
+-- `printer::put_part` meets its contract: the space, then the slot, which `write` takes in turn. Assumes nothing.
 use Rattle.text.specs.Page.{write}
 use Rattle.printer.specs.TickParts.{slot_part}
-use Rattle.printer.specs.TickParts.{slot_part}
-use Rattle.text.specs.Page.{write}
 use Rattle.printer.proofs.put_part.Goals as goal
 
 pub returns : goal.returns

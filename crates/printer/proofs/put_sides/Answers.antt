@@ -1,7 +1,6 @@
--- `printer::put_sides` meets its contract: four slots one after the other; the writes are the write of their
--- join (`write_4`). Written by tools/prove.py; `returns` was changed by hand. Assumes nothing.
+-- `printer::put_sides` meets its contract: four slots one after the other; the writes are the write of their join
+-- (`write_4`). Assumes nothing.
 use Rattle.text.proofs.PageLaws.{write_4}
-use Rattle.printer.specs.TickParts.{sides_part}
 use Rattle.printer.specs.TickParts.{sides_part}
 use Rattle.printer.proofs.put_sides.Goals as goal
 

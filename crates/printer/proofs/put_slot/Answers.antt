@@ -1,6 +1,5 @@
--- `printer::put_slot` meets its contract: in each case of the slot the one call's contract is the answer.
--- First written by tools/prove.py. Assumes nothing.
-use Rattle.text.specs.Page.{write}
+-- `printer::put_slot` meets its contract: in each case of the slot the one call's contract is the answer. Assumes
+-- nothing.
 use Rattle.text.specs.Page.{write}
 use Rattle.printer.proofs.put_slot.Goals as goal
 

@@ -1,8 +1,7 @@
 -- `printer::put_value` meets its contract: the digits, then the newline; two writes are the write of their join
--- (`write_append`). Written by tools/prove.py; `returns` was changed by hand. Assumes nothing.
+-- (`write_append`). Assumes nothing.
 use Rattle.text.specs.Page.{write}
 use Rattle.text.proofs.PageLaws.{write_append}
-use Rattle.text.specs.Page.{write}
 use Rattle.printer.proofs.put_value.Goals as goal
 
 pub returns : goal.returns

@@ -1,6 +1,5 @@
--- `reader::command_of` meets its contract: each return is reached by the tests that the definition makes, in the same order.
--- First written by tools/prove.py. Assumes nothing.
-use Rattle.reader.specs.Reader.{command_of}
+-- `reader::command_of` meets its contract: each return is reached by the tests that the definition makes, in the same
+-- order. Assumes nothing.
 use Rattle.reader.specs.Reader.{command_of}
 use Rattle.reader.proofs.command_of.Goals as goal
 

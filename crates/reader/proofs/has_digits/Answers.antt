@@ -1,5 +1,5 @@
--- `reader::has_digits` meets its contract. The loop's invariant: each byte passed is a digit; the measure is what
--- is left of the count. Written by hand over the lines that `rt dev` prints. Assumes nothing.
+-- `reader::has_digits` meets its contract. The loop's invariant: each byte passed is a digit; the measure is what is
+-- left of the count. Assumes nothing.
 use mathlib.Core.Path.{sym, ap, ◌∙◌}
 use native.Mathlib.Omega.{arith}
 use Rattle.bits.proofs.TestLaws.{at_every}

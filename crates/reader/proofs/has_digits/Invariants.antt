@@ -1,12 +1,11 @@
--- `reader::has_digits` meets its contract. The loop's invariant: each byte passed is a digit; the measure is what
--- is left of the count. Written by hand over the lines that `rt dev` prints. Assumes nothing.
+-- `reader::has_digits` meets its contract. The loop's invariant: each byte passed is a digit; the measure is what is
+-- left of the count. Assumes nothing.
 use Prim.Native.Nat.{ℕ, ◌+◌, ◌-◌, ◌<◌, ◌≤◌}
 use mathlib.Core.Path.{◌≡◌}
 use mathlib.Core.Bool.{true}
 use Rattle.text.specs.Text.{is_digit_of}
 use Rattle.reader.specs.Reader.{byte_of}
 use Rattle.std.proofs.Common.{◌-◌, ◌≡◌, ◌+◌, ◌<◌, ◌≤◌, ℕ}
-use Rattle.reader.specs.Reader.{byte_of}
 use Rattle.reader.proofs.has_digits.Given as goal
 
 abbrev pub invariant-loop-i : goal.invariant-loop-i

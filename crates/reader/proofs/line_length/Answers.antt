@@ -1,5 +1,5 @@
--- `reader::line_length` meets its contract: a search of the whole rest finds the length of its first line.
--- Written by hand over the lines that `rt dev` prints. Assumes nothing.
+-- `reader::line_length` meets its contract: a search of the whole rest finds the length of its first line. Assumes
+-- nothing.
 use mathlib.Core.Path.{sym, ◌∙◌}
 use Rattle.reader.proofs.ReaderLaws.{found, not_found}
 use Rattle.reader.proofs.line_length.Goals as goal

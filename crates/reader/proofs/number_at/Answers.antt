@@ -1,5 +1,5 @@
 -- `reader::number_at` meets its contract. The loop's invariant: the value is the number of the digits passed, and
--- fits them; the measure is what is left of the count. Written by hand over the lines that `rt dev` prints. Assumes nothing.
+-- fits them; the measure is what is left of the count. Assumes nothing.
 use Prim.Native.Nat.{ℕ, ◌+◌, ◌*◌}
 use mathlib.Core.Path.{refl, ap, ◌∙◌}
 use native.Mathlib.Omega.{arith}
@@ -9,7 +9,6 @@ use lib.Dec.{lit<}
 use Rattle.text.specs.Text.{digit_of}
 use Rattle.reader.specs.Reader.{number_at}
 use Rattle.std.proofs.Common.{◌+◌, ℕ, ◌*◌}
-use Rattle.reader.specs.Reader.{number_at}
 use Rattle.reader.proofs.number_at.Goals as goal
 
 pub loop-i-init : goal.loop-i-init

@@ -1,10 +1,9 @@
 -- `reader::number_at` meets its contract. The loop's invariant: the value is the number of the digits passed, and
--- fits them; the measure is what is left of the count. Written by hand over the lines that `rt dev` prints. Assumes nothing.
+-- fits them; the measure is what is left of the count. Assumes nothing.
 use Prim.Native.Nat.{◌-◌, ◌<◌, ◌≤◌, ◌^◌}
 use mathlib.Core.Path.{◌≡◌}
 use Rattle.reader.specs.Reader.{number_at}
 use Rattle.std.proofs.Common.{◌-◌, ◌≡◌, ◌<◌, ◌≤◌, ◌^◌}
-use Rattle.reader.specs.Reader.{number_at}
 use Rattle.reader.proofs.number_at.Given as goal
 
 abbrev pub invariant-loop-i : goal.invariant-loop-i

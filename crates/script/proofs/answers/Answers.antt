@@ -1,5 +1,4 @@
--- `script::answers` meets its contract: the length and the first line decide, as in the definition.
--- Written by hand over the lines that `rt dev` prints. Assumes nothing.
+-- `script::answers` meets its contract: the length and the first line decide, as in the definition. Assumes nothing.
 use Prim.Native.Nat.{ℕ, ◌+◌}
 use mathlib.Core.Path.{◌≡◌, sym, ap, ◌∙◌}
 use lib.ListN.{length, take, drop}
@@ -8,9 +7,6 @@ use Rattle.declines.specs.Runs.{fresh_session}
 use Rattle.script.specs.Script.{capacity, is_header_of, answers_from}
 use Rattle.script.proofs.RunLaws.{no_printed, long_script, bad_first, good_first}
 use Rattle.std.proofs.Common.{rules, ◌≡◌, ◌+◌, take, drop, length, ℕ}
-use Rattle.declines.specs.Runs.{fresh_session}
-use Rattle.reader.specs.Reader.{lines_of}
-use Rattle.script.specs.Script.{capacity, is_header_of, answers_from}
 use Rattle.script.proofs.answers.Goals as goal
 
 pub returns-then-script-gt-SCRIPT_LIMIT-clause-out_after : goal.returns-then-script-gt-SCRIPT_LIMIT-clause-out_after

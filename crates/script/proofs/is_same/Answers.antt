@@ -1,5 +1,5 @@
--- `script::is_same` meets its contract. The loop's invariant: the two lists are the same if their rests are; the measure
--- is what is left. Written by hand over the lines that `rt dev` prints. Assumes nothing.
+-- `script::is_same` meets its contract. The loop's invariant: the two lists are the same if their rests are; the
+-- measure is what is left. Assumes nothing.
 use Prim.Native.Nat.{◌<◌}
 use mathlib.Core.Path.{sym, ◌∙◌}
 use native.Mathlib.Omega.{arith}

@@ -1,11 +1,10 @@
--- `script::is_same` meets its contract. The loop's invariant: the two lists are the same if their rests are; the measure
--- is what is left. Written by hand over the lines that `rt dev` prints. Assumes nothing.
+-- `script::is_same` meets its contract. The loop's invariant: the two lists are the same if their rests are; the
+-- measure is what is left. Assumes nothing.
 use Prim.Native.Nat.{◌-◌, ◌≤◌}
 use mathlib.Core.Path.{◌≡◌}
 use lib.ListN.{length, drop}
 use Rattle.bits.specs.Bytes.{is_same_of}
 use Rattle.std.proofs.Common.{length, ◌-◌, ◌≡◌, ◌≤◌, drop}
-use Rattle.bits.specs.Bytes.{is_same_of}
 use Rattle.script.proofs.is_same.Given as goal
 
 abbrev pub invariant-loop-i : goal.invariant-loop-i

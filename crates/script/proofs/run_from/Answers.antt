@@ -1,6 +1,6 @@
 -- `script::run_from` meets its contract: what is printed so far, followed by the answers of the lines left, is always
--- the answer of the whole; a line's answer fits because five bytes are kept for each byte of script left. Written by
--- tools/prove.py; the answers with a name were written by hand. Assumes nothing.
+-- the answer of the whole; a line's answer fits because five bytes are kept for each byte of script left. Assumes
+-- nothing.
 use Prim.Native.Nat.{ℕ, ◌+◌, ◌-◌, ◌≤◌}
 use mathlib.Core.Path.{◌≡◌, sym, ap, ◌∙◌}
 use mathlib.Core.List.{List, ◌++◌, append-nil}
@@ -18,9 +18,6 @@ use Rattle.reader.specs.declared.Line.{Line}
 use Rattle.reader.proofs.ReaderLaws.{length_at_most}
 use Rattle.script.proofs.RunLaws.{turn_keeps_room, turn_keeps_answers, answers_none}
 use Rattle.std.proofs.Common.{◌≡◌, ◌+◌, ◌≤◌, take, drop, length, ℕ, ◌-◌, ◌<◌, List, ◌++◌}
-use Rattle.declines.specs.Runs.{fresh_session}
-use Rattle.reader.specs.Reader.{lines_of}
-use Rattle.script.specs.Script.{answers_from}
 use Rattle.script.proofs.run_from.Goals as goal
 
 -- what the line reader read is the line that starts at the loop's place

@@ -1,6 +1,6 @@
 -- `script::run_from` meets its contract: what is printed so far, followed by the answers of the lines left, is always
--- the answer of the whole; a line's answer fits because five bytes are kept for each byte of script left. Written by
--- tools/prove.py; the answers with a name were written by hand. Assumes nothing.
+-- the answer of the whole; a line's answer fits because five bytes are kept for each byte of script left. Assumes
+-- nothing.
 use Prim.Native.Nat.{◌+◌, ◌-◌, ◌*◌, ◌≤◌}
 use mathlib.Core.Path.{◌≡◌}
 use mathlib.Core.List.{◌++◌}
@@ -11,9 +11,6 @@ use Rattle.declines.specs.Runs.{session, fresh_session}
 use Rattle.script.specs.Script.{script_limit, capacity}
 use Rattle.script.specs.Script.{answers_from}
 use Rattle.std.proofs.Common.{length, ◌-◌, ◌≡◌, ◌+◌, ◌≤◌, take, drop, ◌*◌}
-use Rattle.declines.specs.Runs.{fresh_session}
-use Rattle.reader.specs.Reader.{lines_of}
-use Rattle.script.specs.Script.{script_limit, capacity, answers_from}
 use Rattle.script.proofs.run_from.Given as goal
 
 abbrev pub invariant-loop-at : goal.invariant-loop-at

@@ -1,9 +1,7 @@
--- `state::buffers` meets its contract: its tests are bits 16–23 of the list, one for one.
--- Written by tools/prove.py; the definitions were opened by hand. Assumes nothing.
+-- `state::buffers` meets its contract: its tests are bits 16–23 of the list, one for one. Assumes nothing.
 use Rattle.bits.specs.Bits.{mask_of, tabulate}
 use Rattle.branches.specs.Handshakes.{strobes_of, ands_of, ors_of}
 use Rattle.state.specs.State.{state_bits_of, state_byte_of}
-use Rattle.state.specs.State.{state_byte_of}
 use Rattle.state.proofs.buffers.Goals as goal
 
 pub returns-clause-value : goal.returns-clause-value

@@ -1,8 +1,6 @@
--- `state::cycle` meets its contract: its tests are bits 8–15 of the list, one for one.
--- Written by tools/prove.py; the definitions were opened by hand. Assumes nothing.
+-- `state::cycle` meets its contract: its tests are bits 8–15 of the list, one for one. Assumes nothing.
 use Rattle.bits.specs.Bits.{mask_of}
 use Rattle.state.specs.State.{state_bits_of, state_byte_of}
-use Rattle.state.specs.State.{state_byte_of}
 use Rattle.state.proofs.cycle.Goals as goal
 
 pub returns-clause-value : goal.returns-clause-value

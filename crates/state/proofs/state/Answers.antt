@@ -1,5 +1,5 @@
--- `state::state` meets its contract: four bytes, each above the one before, are the word (`state-of-bytes`).
--- Written by tools/prove.py; the last line of `returns` by hand. Assumes nothing.
+-- `state::state` meets its contract: four bytes, each above the one before, are the word (`state-of-bytes`). Assumes
+-- nothing.
 use Rattle.state.proofs.StateLaws.{state-of-bytes}
 use Rattle.state.proofs.state.Goals as goal
 

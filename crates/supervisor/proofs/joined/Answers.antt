@@ -1,6 +1,5 @@
 -- `supervisor::joined` meets its contract: the literal is the definition; lines out are those of the next core.
--- First written by tools/prove.py. Assumes nothing.
-use Rattle.supervisor.specs.Supervisor.{joined_of}
+-- Assumes nothing.
 use Rattle.supervisor.specs.Supervisor.{joined_of}
 use Rattle.supervisor.proofs.joined.Goals as goal
 

@@ -1,9 +1,8 @@
--- `table::are_taken` meets its contract. The loop's invariant: each word passed is taken; the measure is what is left of the
--- twelve. Written by hand over the lines that `rt dev` prints. Assumes nothing.
+-- `table::are_taken` meets its contract. The loop's invariant: each word passed is taken; the measure is what is left
+-- of the twelve. Assumes nothing.
 use mathlib.Core.Path.{sym, ◌∙◌}
 use native.Mathlib.Omega.{arith}
 use Rattle.bits.proofs.TestLaws.{at_every, every_fails}
-use Rattle.table.specs.Table.{are_taken}
 use Rattle.table.specs.Table.{are_taken}
 use Rattle.table.proofs.are_taken.Goals as goal
 

@@ -1,12 +1,11 @@
--- `table::are_taken` meets its contract. The loop's invariant: each word passed is taken; the measure is what is left of the
--- twelve. Written by hand over the lines that `rt dev` prints. Assumes nothing.
+-- `table::are_taken` meets its contract. The loop's invariant: each word passed is taken; the measure is what is left
+-- of the twelve. Assumes nothing.
 use Prim.Native.Nat.{ℕ, ◌-◌, ◌<◌, ◌≤◌}
 use mathlib.Core.Path.{◌≡◌}
 use mathlib.Core.Bool.{true}
 use lib.ListN.{get_or}
 use Rattle.table.specs.Table.{is_taken_word}
 use Rattle.std.proofs.Common.{◌-◌, ◌≡◌, ◌<◌, ℕ, ◌≤◌}
-use Rattle.table.specs.Table.{is_taken_word}
 use Rattle.table.proofs.are_taken.Given as goal
 
 abbrev pub invariant-loop-i : goal.invariant-loop-i

@@ -1,5 +1,5 @@
--- `table::fill` meets its contract. The loop's invariant: the slice keeps its length, and each place passed has its word; the
--- measure is what is left of the length. Written by hand over the lines that `rt dev` prints. Assumes nothing.
+-- `table::fill` meets its contract. The loop's invariant: the slice keeps its length, and each place passed has its
+-- word; the measure is what is left of the length. Assumes nothing.
 use native.Mathlib.Omega.{arith}
 use Rattle.table.proofs.TableLaws.{table_by_places}
 use Rattle.table.proofs.fill.Goals as goal

@@ -1,11 +1,10 @@
--- `table::fill` meets its contract. The loop's invariant: the slice keeps its length, and each place passed has its word; the
--- measure is what is left of the length. Written by hand over the lines that `rt dev` prints. Assumes nothing.
+-- `table::fill` meets its contract. The loop's invariant: the slice keeps its length, and each place passed has its
+-- word; the measure is what is left of the length. Assumes nothing.
 use Prim.Native.Nat.{ℕ, ◌-◌, ◌<◌}
 use mathlib.Core.Path.{◌≡◌}
 use lib.ListN.{length, get_or}
 use Rattle.table.specs.Table.{table_word_of}
 use Rattle.std.proofs.Common.{length, ◌-◌, ◌≡◌, ◌<◌, ℕ}
-use Rattle.table.specs.Table.{table_word_of}
 use Rattle.table.proofs.fill.Given as goal
 
 abbrev pub invariant-loop-place : goal.invariant-loop-place

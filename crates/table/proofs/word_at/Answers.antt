@@ -1,5 +1,5 @@
--- `table::word_at` meets its contract. The loop's invariant: the word is what is gathered from input i on; the measure is i.
--- Written by hand over the lines that `rt dev` prints. Assumes nothing.
+-- `table::word_at` meets its contract. The loop's invariant: the word is what is gathered from input i on; the
+-- measure is i. Assumes nothing.
 use Prim.Native.Nat.{ℕ, ◌-◌}
 use mathlib.Core.Path.{◌≡◌, refl, sym, ap, ◌∙◌}
 use mathlib.Core.Bool.{true, false}
@@ -9,7 +9,6 @@ use borrow.Author.Tests.{eq-eqb, ne_eqb}
 use Rattle.table.specs.Table.{over_of}
 use Rattle.table.proofs.TableChoices.{gathered, gathered_from, gathered_down, gathered_all, gathered_is_table}
 use Rattle.std.proofs.Common.{◌≡◌, length, ℕ, ◌-◌, true, false}
-use Rattle.table.specs.Table.{over_of}
 use Rattle.table.proofs.word_at.Goals as goal
 
 pub loop-i-init : goal.loop-i-init

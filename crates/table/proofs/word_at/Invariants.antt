@@ -1,5 +1,5 @@
--- `table::word_at` meets its contract. The loop's invariant: the word is what is gathered from input i on; the measure is i.
--- Written by hand over the lines that `rt dev` prints. Assumes nothing.
+-- `table::word_at` meets its contract. The loop's invariant: the word is what is gathered from input i on; the
+-- measure is i. Assumes nothing.
 use Prim.Native.Nat.{◌-◌, ◌<◌, ◌≤◌}
 use mathlib.Core.Path.{◌≡◌}
 use Rattle.table.proofs.TableChoices.{gathered_from}

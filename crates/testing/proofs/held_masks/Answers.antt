@@ -1,6 +1,4 @@
--- `testing::held_masks` meets its contract: the stopped pulses, and four masks that are 0.
--- First written by tools/prove.py. Assumes nothing.
-use Rattle.testing.specs.InForce.{held_masks_of}
+-- `testing::held_masks` meets its contract: the stopped pulses, and four masks that are 0. Assumes nothing.
 use Rattle.testing.specs.InForce.{held_masks_of}
 use Rattle.testing.proofs.held_masks.Goals as goal
 

@@ -1,8 +1,6 @@
--- `text::digit` meets its contract: the code's four tests part the bytes as the definition's two do.
--- Written by tools/prove.py; the answers were written by hand. Assumes nothing.
+-- `text::digit` meets its contract: the code's four tests part the bytes as the definition's two do. Assumes nothing.
 use borrow.Author.Tests.{le-leb, lt-leb}
 use native.Mathlib.Omega.{arith}
-use Rattle.text.specs.Text.{digit_of}
 use Rattle.text.specs.Text.{digit_of}
 use Rattle.text.proofs.digit.Goals as goal
 

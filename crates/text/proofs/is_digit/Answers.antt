@@ -1,8 +1,6 @@
--- `text::is_digit` meets its contract: its four tests are the definition's.
--- First written by tools/prove.py. Assumes nothing.
+-- `text::is_digit` meets its contract: its four tests are the definition's. Assumes nothing.
 use Rattle.text.specs.Text.{is_digit_of}
 use mathlib.Core.Path.{refl}
-use Rattle.text.specs.Text.{is_digit_of}
 use Rattle.text.proofs.is_digit.Goals as goal
 
 pub returns : goal.returns

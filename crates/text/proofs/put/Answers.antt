@@ -1,8 +1,7 @@
--- `text::put` meets its contract: room left, and the byte is set and the place moves on; none left, and both
--- stay: the two branches of `write_byte`. First written by tools/prove.py. Assumes nothing.
+-- `text::put` meets its contract: room left, and the byte is set and the place moves on; none left, and both stay:
+-- the two branches of `write_byte`. Assumes nothing.
 use Rattle.text.specs.Page.{write_byte}
 use borrow.Author.Tests.{le-ltb, lt-ltb}
-use Rattle.text.specs.Page.{write_byte}
 use Rattle.text.proofs.put.Goals as goal
 
 pub returns-then-at-out : goal.returns-then-at-out

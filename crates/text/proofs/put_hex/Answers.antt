@@ -1,5 +1,5 @@
 -- `text::put_hex` meets its contract. The loop's invariant: the digits left, written on the page as it is, give the
--- page asked for; the measure is how many are left. Written by hand over the lines that `rt dev` prints. Assumes nothing.
+-- page asked for; the measure is how many are left. Assumes nothing.
 use Prim.Native.Nat.{ℕ, ◌-◌}
 use mathlib.Core.Path.{sym, ap, ◌∙◌}
 use native.Mathlib.Omega.{arith}
@@ -7,8 +7,6 @@ use Rattle.text.specs.Text.{hex}
 use Rattle.text.specs.Page.{page, write, write_byte}
 use Rattle.text.proofs.PageLaws.{write_hex, write_none}
 use Rattle.std.proofs.Common.{ℕ, ◌-◌}
-use Rattle.text.specs.Text.{hex}
-use Rattle.text.specs.Page.{page, write, write_byte}
 use Rattle.text.proofs.put_hex.Goals as goal
 
 pub loop-left-preserved : goal.loop-left-preserved

@@ -1,13 +1,11 @@
 -- `text::put_hex` meets its contract. The loop's invariant: the digits left, written on the page as it is, give the
--- page asked for; the measure is how many are left. Written by hand over the lines that `rt dev` prints. Assumes nothing.
+-- page asked for; the measure is how many are left. Assumes nothing.
 use Prim.Native.Nat.{◌≤◌}
 use mathlib.Core.Path.{◌≡◌}
 use lib.ListN.{length}
 use Rattle.text.specs.Text.{hex}
 use Rattle.text.specs.Page.{page, write}
 use Rattle.std.proofs.Common.{◌≡◌, ◌≤◌, length}
-use Rattle.text.specs.Text.{hex}
-use Rattle.text.specs.Page.{page, write}
 use Rattle.text.proofs.put_hex.Given as goal
 
 abbrev pub invariant-loop-left : goal.invariant-loop-left

@@ -1,6 +1,5 @@
--- `branch::Branch::appended` meets its contract: its calls choose the fields, by `appended_by_choices`
--- as the load does.
--- Written by hand over the lines that `rt dev` prints. Assumes nothing.
+-- `branch::Branch::appended` meets its contract: its calls choose the fields, by `appended_by_choices` as the load
+-- does. Assumes nothing.
 use Rattle.branch.proofs.BranchChoices.{appended_by_choices}
 use Rattle.branch.proofs.Branch.appended.Goals as goal
 

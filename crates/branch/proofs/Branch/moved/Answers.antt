@@ -1,9 +1,7 @@
--- `branch::Branch::moved` meets its contract: its calls choose the fields, by `moved_by_choices`
--- as the move does.
--- Written by hand over the lines that `rt dev` prints. Assumes nothing.
+-- `branch::Branch::moved` meets its contract: its calls choose the fields, by `moved_by_choices` as the move does.
+-- Assumes nothing.
 use Rattle.branch.specs.Branch.{has_word, all_high, all_low, moved_of}
 use Rattle.branch.proofs.BranchChoices.{moved_by_choices}
-use Rattle.branch.specs.Branch.{all_high, all_low, moved_of}
 use Rattle.branch.proofs.Branch.moved.Goals as goal
 
 pub returns : goal.returns

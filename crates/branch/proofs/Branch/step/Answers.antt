@@ -1,6 +1,5 @@
--- `branch::Branch::step` meets its contract: it is what its two calls ensure, the move and then the load.
--- Written by hand over the lines that `rt dev` prints. Assumes nothing.
-use Rattle.branch.specs.Branch.{step_of}
+-- `branch::Branch::step` meets its contract: it is what its two calls ensure, the move and then the load. Assumes
+-- nothing.
 use Rattle.branch.specs.Branch.{step_of}
 use Rattle.branch.proofs.Branch.step.Goals as goal
 

@@ -1,8 +1,6 @@
--- `branches::Readout::ands` meets its contract: each branch by its bytes of both words.
--- First written by tools/prove.py. Assumes nothing.
+-- `branches::Readout::ands` meets its contract: each branch by its bytes of both words. Assumes nothing.
 use Rattle.branches.specs.Handshakes.{ands_of}
 use Rattle.bits.specs.Bits.{tabulate}
-use Rattle.branches.specs.Handshakes.{ands_of}
 use Rattle.branches.proofs.Readout.ands.Goals as goal
 
 pub returns : goal.returns

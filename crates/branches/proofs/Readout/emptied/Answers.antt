@@ -1,5 +1,5 @@
 -- `branches::Readout::emptied` meets its contract: four fresh branches are what RESET leaves (`emptied_of_four`).
--- Written by tools/prove.py; the answers to `returns` were written by hand. Assumes nothing.
+-- Assumes nothing.
 use Rattle.branches.proofs.ReadoutChoices.{emptied_of_four}
 use Rattle.branches.proofs.Readout.emptied.Goals as goal
 

@@ -1,5 +1,5 @@
--- `branches::Readout::has_room` meets its contract: its four tests are the test of every branch (`every_of_four`), the fourth with its own lock.
--- Written by tools/prove.py; the answers to `returns` were written by hand. Assumes nothing.
+-- `branches::Readout::has_room` meets its contract: its four tests are the test of every branch (`every_of_four`),
+-- the fourth with its own lock. Assumes nothing.
 use Rattle.branches.specs.Readout.{has_room_of}
 use lib.Dec.{ltb}
 use lib.ListN.{length}
@@ -7,7 +7,6 @@ use Rattle.branches.specs.Readout.{depth_of}
 use Rattle.branches.specs.ReadoutFields.{branch_at}
 use Rattle.branches.proofs.ReadoutChoices.{every_of_four}
 use Rattle.std.proofs.Common.{length}
-use Rattle.branches.specs.Readout.{has_room_of}
 use Rattle.branches.proofs.Readout.has_room.Goals as goal
 
 pub returns : goal.returns

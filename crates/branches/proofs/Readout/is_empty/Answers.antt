@@ -1,5 +1,5 @@
 -- `branches::Readout::is_empty` meets its contract: its four tests are the test of every branch (`every_of_four`).
--- Written by tools/prove.py; the answers to `returns` were written by hand. Assumes nothing.
+-- Assumes nothing.
 use Rattle.branches.specs.Readout.{is_empty_of}
 use mathlib.Core.Bool.{not}
 use lib.ListN.{length}
@@ -7,7 +7,6 @@ use Rattle.branch.specs.Branch.{has_word}
 use Rattle.branches.specs.ReadoutFields.{branch_at}
 use Rattle.branches.proofs.ReadoutChoices.{every_of_four}
 use Rattle.std.proofs.Common.{length}
-use Rattle.branches.specs.Readout.{is_empty_of}
 use Rattle.branches.proofs.Readout.is_empty.Goals as goal
 
 pub returns : goal.returns

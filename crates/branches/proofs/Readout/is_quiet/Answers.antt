@@ -1,12 +1,11 @@
 -- `branches::Readout::is_quiet` meets its contract: its four tests are the test of every branch (`every_of_four`).
--- Written by tools/prove.py; the answers to `returns` were written by hand. Assumes nothing.
+-- Assumes nothing.
 use Rattle.branches.specs.Readout.{is_quiet_of}
 use lib.ListN.{length}
 use Rattle.branch.specs.Branch as branch
 use Rattle.branches.specs.ReadoutFields.{branch_at}
 use Rattle.branches.proofs.ReadoutChoices.{every_of_four}
 use Rattle.std.proofs.Common.{length}
-use Rattle.branches.specs.Readout.{is_quiet_of}
 use Rattle.branch.specs.Branch.{queue_depth}
 use Rattle.branches.proofs.Readout.is_quiet.Goals as goal
 

@@ -1,5 +1,5 @@
--- `branches::Readout::is_well_formed` meets its contract: quiet branches are told by their places (`quiet_is_well_formed`); else each is tested (`every_of_four`).
--- Written by tools/prove.py; the answers to `returns` were written by hand. Assumes nothing.
+-- `branches::Readout::is_well_formed` meets its contract: quiet branches are told by their places
+-- (`quiet_is_well_formed`); else each is tested (`every_of_four`). Assumes nothing.
 use Rattle.branches.specs.Readout.{is_well_formed_of}
 use mathlib.Core.Path.{sym, ◌∙◌}
 use lib.Dec.{eqb}
@@ -8,7 +8,6 @@ use Rattle.branches.specs.Readout.{is_sound_branch_of}
 use Rattle.branches.specs.ReadoutFields.{branch_at}
 use Rattle.branches.proofs.ReadoutChoices.{every_of_four, quiet_is_well_formed}
 use Rattle.std.proofs.Common.{length}
-use Rattle.branches.specs.Readout.{is_sound_branch_of, is_well_formed_of}
 use Rattle.branches.proofs.Readout.is_well_formed.Goals as goal
 
 pub returns-then-is_quiet : goal.returns-then-is_quiet

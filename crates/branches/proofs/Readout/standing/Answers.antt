@@ -1,5 +1,5 @@
 -- `branches::Readout::standing` meets its contract: its four sides are those of the list (`standing_of_four`).
--- First written by tools/prove.py. Assumes nothing.
+-- Assumes nothing.
 use Rattle.branches.proofs.ReadoutChoices.{standing_of_four}
 use Rattle.branches.proofs.Readout.standing.Goals as goal
 

@@ -1,5 +1,5 @@
--- `branches::Readout::step` meets its contract: a quiet readout with nothing to load stays (`quiet_is_silent`); any other is stepped.
--- Written by tools/prove.py; the answers to `returns` were written by hand. Assumes nothing.
+-- `branches::Readout::step` meets its contract: a quiet readout with nothing to load stays (`quiet_is_silent`); any
+-- other is stepped. Assumes nothing.
 use mathlib.Core.Path.{◌≡◌, sym, ◌∙◌}
 use mathlib.Core.Bool.{Bool, true, not, ◌&&◌}
 use borrow.Author.Tests.{not-true}

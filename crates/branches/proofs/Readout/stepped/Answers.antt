@@ -1,5 +1,5 @@
--- `branches::Readout::stepped` meets its contract: the four steps, each with its byte of both words, are the step of the readout (`gathered_of_four`).
--- Written by tools/prove.py; the answers to `returns` were written by hand. Assumes nothing.
+-- `branches::Readout::stepped` meets its contract: the four steps, each with its byte of both words, are the step of
+-- the readout (`gathered_of_four`). Assumes nothing.
 use Rattle.bits.specs.Bits.{tabulate}
 use Rattle.branches.proofs.ReadoutChoices.{gathered_of_four}
 use Rattle.branches.proofs.Readout.stepped.Goals as goal

@@ -1,8 +1,6 @@
--- `branches::Readout::strobes` meets its contract: each branch by its phase.
--- First written by tools/prove.py. Assumes nothing.
+-- `branches::Readout::strobes` meets its contract: each branch by its phase. Assumes nothing.
 use Rattle.branches.specs.Handshakes.{strobes_of}
 use Rattle.bits.specs.Bits.{tabulate}
-use Rattle.branches.specs.Handshakes.{strobes_of}
 use Rattle.branches.proofs.Readout.strobes.Goals as goal
 
 pub returns : goal.returns

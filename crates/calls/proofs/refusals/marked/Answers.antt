@@ -1,6 +1,5 @@
--- `calls::refusals::marked` meets its contract: the CSR marked, put back into the core and the record.
--- First written by tools/prove.py. Assumes nothing.
-use Rattle.declines.specs.Calls.{marked_of}
+-- `calls::refusals::marked` meets its contract: the CSR marked, put back into the core and the record. Assumes
+-- nothing.
 use Rattle.declines.specs.Calls.{marked_of}
 use Rattle.calls.proofs.refusals.marked.Goals as goal
 

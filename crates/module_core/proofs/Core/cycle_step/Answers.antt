@@ -1,6 +1,5 @@
--- `module_core::Core::cycle_step` meets its contract: each state calls its own part on the tests as their call ensures, which is the
--- step, and quiet where it says so (`cycled_by_state`).
--- First written by tools/prove.py. Assumes nothing.
+-- `module_core::Core::cycle_step` meets its contract: each state calls its own part on the tests as their call
+-- ensures, which is the step, and quiet where it says so (`cycled_by_state`). Assumes nothing.
 use Rattle.sequencer.specs.declared.states.State.TheVariants.{Idle, Delay, Wait2, Wait3}
 use Rattle.sequencer.specs.declared.states.State.TheVariants.{Front, Space, SyncHold, Clear}
 use Rattle.module_core.proofs.CoreCycle.{cycled_by_state}

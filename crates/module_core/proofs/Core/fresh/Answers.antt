@@ -1,6 +1,5 @@
 -- `module_core::Core::fresh` meets its contract: the literal is the definition, each field as its call ensures.
--- First written by tools/prove.py. Assumes nothing.
-use Rattle.module_core.specs.Core.{fresh_of}
+-- Assumes nothing.
 use Rattle.module_core.specs.Core.{fresh_of}
 use Rattle.module_core.proofs.Core.fresh.Goals as goal
 

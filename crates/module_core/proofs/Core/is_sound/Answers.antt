@@ -1,6 +1,5 @@
--- `module_core::Core::is_sound` meets its contract: its tests are the clauses of the definition, one for one.
--- First written by tools/prove.py. Assumes nothing.
-use Rattle.module_core.specs.Spoiled.{is_sound_of}
+-- `module_core::Core::is_sound` meets its contract: its tests are the clauses of the definition, one for one. Assumes
+-- nothing.
 use Rattle.module_core.specs.Spoiled.{is_sound_of}
 use Rattle.module_core.proofs.Core.is_sound.Goals as goal
 

@@ -1,9 +1,8 @@
--- `module_core::Core::latched` meets its contract: where nothing passed nothing is latched (`latched_at_none`), else by its calls.
--- First written by tools/prove.py. Assumes nothing.
+-- `module_core::Core::latched` meets its contract: where nothing passed nothing is latched (`latched_at_none`), else
+-- by its calls. Assumes nothing.
 use Rattle.module_core.specs.Core.{latched_of}
 use Rattle.module_core.proofs.CoreParts.{latched_at_none}
 use borrow.Author.Tests.{ne_eqb}
-use Rattle.module_core.specs.Core.{latched_of}
 use Rattle.module_core.proofs.Core.latched.Goals as goal
 
 pub returns-then-passed-eq0 : goal.returns-then-passed-eq0

@@ -1,6 +1,5 @@
--- `module_core::Core::lines_out` meets its contract: a sum of parts that do not overlap, and that fits.
--- First written by tools/prove.py. Assumes nothing.
-use Rattle.module_core.specs.Core.{lines_out_of}
+-- `module_core::Core::lines_out` meets its contract: a sum of parts that do not overlap, and that fits. Assumes
+-- nothing.
 use Rattle.module_core.specs.Core.{lines_out_of}
 use Rattle.module_core.proofs.Core.lines_out.Goals as goal
 

@@ -1,5 +1,5 @@
--- `module_core::Core::main_step` meets its contract: a return for an accepted pattern (`main_accepts`) and one for a cycle
--- (`main_goes_on`). First written by tools/prove.py. Assumes nothing.
+-- `module_core::Core::main_step` meets its contract: a return for an accepted pattern (`main_accepts`) and one for a
+-- cycle (`main_goes_on`). Assumes nothing.
 use mathlib.Core.Path.{◌∙◌}
 use Rattle.module_core.proofs.CoreCycle.{main_accepts, main_goes_on}
 use borrow.Author.Tests.{eq-eqb, ne_eqb}

@@ -1,10 +1,8 @@
--- `module_core::Core::pulsed` meets its contract: without a trigger the bank stays (`pulsed_without_trigger`), else the pulses that
--- control counts, through the bank, as their calls ensure.
--- First written by tools/prove.py. Assumes nothing.
+-- `module_core::Core::pulsed` meets its contract: without a trigger the bank stays (`pulsed_without_trigger`), else
+-- the pulses that control counts, through the bank, as their calls ensure. Assumes nothing.
 use Rattle.module_core.specs.Core.{pulsed_of}
 use Rattle.module_core.proofs.CoreIdle.{pulsed_without_trigger}
 use Rattle.std.proofs.Common.{rules}
-use Rattle.module_core.specs.Core.{pulsed_of}
 use Rattle.module_core.proofs.Core.pulsed.Goals as goal
 
 pub returns-then-x-eq0 : goal.returns-then-x-eq0

@@ -1,6 +1,5 @@
 -- `module_core::Core::reset` meets its contract: the literal is the definition, each field as its call ensures.
--- First written by tools/prove.py. Assumes nothing.
-use Rattle.module_core.specs.Core.{reset_of}
+-- Assumes nothing.
 use Rattle.module_core.specs.Core.{reset_of}
 use Rattle.module_core.proofs.Core.reset.Goals as goal
 

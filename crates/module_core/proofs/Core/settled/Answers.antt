@@ -1,9 +1,7 @@
--- `module_core::Core::settled` meets its contract: each field as its call ensures; of the sync counter the count alone
--- is set (`sync_after_by_count`).
--- First written by tools/prove.py. Assumes nothing.
+-- `module_core::Core::settled` meets its contract: each field as its call ensures; of the sync counter the count
+-- alone is set (`sync_after_by_count`). Assumes nothing.
 use Rattle.module_core.specs.Core.{settled_of}
 use Rattle.trigger.proofs.EffectsLaws.{sync_after_by_count}
-use Rattle.module_core.specs.Core.{settled_of}
 use Rattle.module_core.proofs.Core.settled.Goals as goal
 
 pub returns : goal.returns

@@ -1,10 +1,8 @@
 -- `module_core::Core::settled_quietly` meets its contract: each field as its call ensures; where neither main nor the
--- user sync reports anything, the rest of the definition computes.
--- First written by tools/prove.py. Assumes nothing.
+-- user sync reports anything, the rest of the definition computes. Assumes nothing.
 use Rattle.module_core.specs.Core.{settled_of}
 use Rattle.registers.specs.Csr.{sync_hold_ended_if_of, user_sync_ended_if_of}
 use Rattle.trigger.specs.Effects.{csr_after_of, sync_after_of}
-use Rattle.module_core.specs.Core.{settled_of}
 use Rattle.module_core.proofs.Core.settled_quietly.Goals as goal
 
 pub returns : goal.returns

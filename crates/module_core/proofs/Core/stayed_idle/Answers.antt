@@ -1,6 +1,4 @@
--- `module_core::Core::stayed_idle` meets its contract: each field as its call ensures.
--- First written by tools/prove.py. Assumes nothing.
-use Rattle.module_core.specs.StaysIdle.{stayed_idle_of}
+-- `module_core::Core::stayed_idle` meets its contract: each field as its call ensures. Assumes nothing.
 use Rattle.module_core.specs.StaysIdle.{stayed_idle_of}
 use Rattle.module_core.proofs.Core.stayed_idle.Goals as goal
 

@@ -1,7 +1,7 @@
--- `module_core::Core::step` meets its contract: where no sequencer moves, what is left of a tick (`stays_idle_by_choices`); else each
--- part, given the record at the tick's start, settled (`step_by_latched`), where main's step is quiet and there is no user sync
--- by the shorter way (`quiet_is_quiet`, `user_stays`).
--- First written by tools/prove.py; `widths` are those of the scalers, the fifth field. Assumes nothing.
+-- `module_core::Core::step` meets its contract: where no sequencer moves, what is left of a tick
+-- (`stays_idle_by_choices`); else each part, given the record at the tick's start, settled (`step_by_latched`), where
+-- main's step is quiet and there is no user sync by the shorter way (`quiet_is_quiet`, `user_stays`). Assumes
+-- nothing.
 use mathlib.Core.Path.{sym, ◌∙◌}
 use Rattle.bits.proofs.TestLaws.{and_left, and_right}
 use Rattle.module_core.proofs.CoreParts.{step_by_latched}

@@ -1,6 +1,5 @@
 -- `module_core::Core::tests` meets its contract: the literal is the definition, each test as its call ensures.
--- First written by tools/prove.py. Assumes nothing.
-use Rattle.module_core.specs.Core.{tests_of}
+-- Assumes nothing.
 use Rattle.module_core.specs.Core.{tests_of}
 use Rattle.module_core.proofs.Core.tests.Goals as goal
 

@@ -1,6 +1,5 @@
--- `prescaler::Prescalers::counted_down` meets its contract: its eight counters and its mask are those of the bank, which
--- put together are the step (`counted_by_choices`).
--- First written by tools/prove.py. Assumes nothing.
+-- `prescaler::Prescalers::counted_down` meets its contract: its eight counters and its mask are those of the bank,
+-- which put together are the step (`counted_by_choices`). Assumes nothing.
 use mathlib.Core.List.{[], ◌∷◌}
 use Rattle.bits.specs.Bits.{tabulate}
 use Rattle.prescaler.proofs.PrescalerChoices.{counted_by_choices}

@@ -1,8 +1,7 @@
 -- `prescaler::Prescalers::factor` meets its contract: within the bank it is the factor at the input's place, else 0.
--- First written by tools/prove.py. Assumes nothing.
+-- Assumes nothing.
 use Rattle.prescaler.specs.Prescaler.{factor_of}
 use borrow.Author.Tests.{le-leb, lt-leb}
-use Rattle.prescaler.specs.Prescaler.{factor_of}
 use Rattle.prescaler.proofs.Prescalers.factor.Goals as goal
 
 pub returns-then-input-le-PRESCALED_INPUTS : goal.returns-then-input-le-PRESCALED_INPUTS

@@ -1,5 +1,5 @@
 -- `prescaler::Prescalers::scaled_of` meets its contract: its eight numbers make the mask (`scaled_by_digits`).
--- First written by tools/prove.py. Assumes nothing.
+-- Assumes nothing.
 use Rattle.prescaler.proofs.PrescalerChoices.{scaled_by_digits}
 use Rattle.prescaler.proofs.Prescalers.scaled_of.Goals as goal
 

@@ -1,6 +1,5 @@
 -- `prescaler::Prescalers::step` meets its contract: a bank that does not run, or that no pulse of inputs 1–8 meets,
--- stays (`stopped_by_choices`, `passed_by_choices`); any other is counted down.
--- Written by tools/prove.py; the returns were written by hand. Assumes nothing.
+-- stays (`stopped_by_choices`, `passed_by_choices`); any other is counted down. Assumes nothing.
 use Rattle.prescaler.proofs.PrescalerChoices.{stopped_by_choices, passed_by_choices}
 use Rattle.std.proofs.Common.{rules}
 use Rattle.prescaler.proofs.Prescalers.step.Goals as goal

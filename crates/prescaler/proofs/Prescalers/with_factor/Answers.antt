@@ -1,8 +1,7 @@
--- `prescaler::Prescalers::with_factor` meets its contract: one return for each outcome of the tests of the input, and of the load.
--- First written by tools/prove.py. Assumes nothing.
+-- `prescaler::Prescalers::with_factor` meets its contract: one return for each outcome of the tests of the input, and
+-- of the load. Assumes nothing.
 use Rattle.prescaler.specs.Prescaler.{with_factor_of}
 use borrow.Author.Tests.{le-leb, lt-leb}
-use Rattle.prescaler.specs.Prescaler.{with_factor_of}
 use Rattle.prescaler.proofs.Prescalers.with_factor.Goals as goal
 
 pub returns-then-loads : goal.returns-then-loads

@@ -1,9 +1,7 @@
--- `run::Run::holds` meets its contract: from the first byte on, how far a byte is from it decides.
--- First written by tools/prove.py. Assumes nothing.
+-- `run::Run::holds` meets its contract: from the first byte on, how far a byte is from it decides. Assumes nothing.
 use borrow.Author.Tests.{le-leb, lt-leb}
 use Rattle.run.specs.Run.{holds_byte}
 use Rattle.run.proofs.RunLaws.{nth_is_held}
-use Rattle.run.specs.Run.{holds_byte}
 use Rattle.run.proofs.Run.holds.Goals as goal
 
 pub returns-then-self-b : goal.returns-then-self-b

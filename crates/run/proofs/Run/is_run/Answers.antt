@@ -1,9 +1,8 @@
--- `run::Run::is_run` meets its contract: within the four bytes the rest of them bounds the count; past them there is no run.
--- First written by tools/prove.py. Assumes nothing.
+-- `run::Run::is_run` meets its contract: within the four bytes the rest of them bounds the count; past them there is
+-- no run. Assumes nothing.
 use mathlib.Core.Path.{sym}
 use Rattle.run.specs.Run.{is_run_of}
 use Rattle.run.proofs.RunLaws.{rest_is_within, past_is_no_run}
-use Rattle.run.specs.Run.{is_run_of}
 use Rattle.run.proofs.Run.is_run.Goals as goal
 
 pub returns-then-self-lt-BYTES : goal.returns-then-self-lt-BYTES

@@ -1,5 +1,4 @@
--- `run::Run::mask` meets its contract: the bytes that are held, as four masks.
--- First written by tools/prove.py. Assumes nothing.
+-- `run::Run::mask` meets its contract: the bytes that are held, as four masks. Assumes nothing.
 use Rattle.run.proofs.RunLaws.{bytes_are_mask}
 use Rattle.run.proofs.Run.mask.Goals as goal
 

@@ -1,9 +1,8 @@
--- `run::Run::overlaid` meets its contract: the whole run is the value; any other sets the value's bits in the old word.
--- First written by tools/prove.py. Assumes nothing.
+-- `run::Run::overlaid` meets its contract: the whole run is the value; any other sets the value's bits in the old
+-- word. Assumes nothing.
 use Rattle.run.specs.Run.{overlaid_of}
 use Rattle.run.proofs.RunLaws.{set_is_overlaid}
 use Rattle.std.proofs.Common.{rules}
-use Rattle.run.specs.Run.{overlaid_of}
 use Rattle.run.proofs.Run.overlaid.Goals as goal
 
 pub returns-then-is_whole : goal.returns-then-is_whole

@@ -1,11 +1,8 @@
--- `scalers::Scalers::counted` meets its contract: signals that are none leave both scalers (`counted_none`); else both by what
--- their calls ensure.
--- First written by tools/prove.py. Assumes nothing.
+-- `scalers::Scalers::counted` meets its contract: signals that are none leave both scalers (`counted_none`); else
+-- both by what their calls ensure. Assumes nothing.
 use Rattle.std.proofs.Common.{sym, ◌∙◌, rules}
 use Rattle.scalers.specs.Scalers.{counted_of}
 use Rattle.scalers.proofs.ScalersLaws.{counted_none}
-use Rattle.std.proofs.Common.{rules}
-use Rattle.scalers.specs.Scalers.{counted_of}
 use Rattle.scalers.proofs.Scalers.counted.Goals as goal
 
 pub returns-then-is_none : goal.returns-then-is_none

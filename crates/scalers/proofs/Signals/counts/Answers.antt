@@ -1,9 +1,8 @@
--- `scalers::Signals::counts` meets its contract: the codes are tested as the definition tests them, in the same order.
--- First written by tools/prove.py. Assumes nothing.
+-- `scalers::Signals::counts` meets its contract: the codes are tested as the definition tests them, in the same
+-- order. Assumes nothing.
 use Rattle.scalers.specs.Scalers.{counts_of}
 use Rattle.std.proofs.Common.{le-ltb, lt-ltb, eq-eqb, ne_eqb, le-leb}
 use borrow.Author.Tests.{lt-leb}
-use Rattle.scalers.specs.Scalers.{counts_of}
 use Rattle.scalers.proofs.Signals.counts.Goals as goal
 
 pub returns-then-code-eq0 : goal.returns-then-code-eq0

@@ -1,6 +1,5 @@
--- `script::session::run_line` meets its contract: in each case of the command the call's contract gives the next record
--- and memory, and the printing function's gives the page. Written by tools/prove.py; the answers to `returns` were
--- written by hand. Assumes nothing.
+-- `script::session::run_line` meets its contract: in each case of the command the call's contract gives the next
+-- record and memory, and the printing function's gives the page. Assumes nothing.
 use Prim.Native.Nat.{ℕ}
 use mathlib.Core.Path.{◌≡◌, sym, ap}
 use mathlib.Core.List.{List}
@@ -11,9 +10,6 @@ use Rattle.declines.proofs.BytesCallsLaws.{plain_write_next, plain_write_reply, 
 use Rattle.text.specs.Page.{Page, write}
 use Rattle.printer.specs.Printer.{reply_text}
 use Rattle.std.proofs.Common.{◌≡◌, ℕ, List}
-use Rattle.printer.specs.Printer.{reply_text}
-use Rattle.declines.specs.Runs.{session}
-use Rattle.text.specs.Page.{write}
 use Rattle.script.proofs.session.run_line.Goals as goal
 
 -- a plain call is that of the whole run

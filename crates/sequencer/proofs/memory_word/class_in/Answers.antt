@@ -1,8 +1,7 @@
 -- `sequencer::memory_word::class_in` meets its contract: the tests are those of the definition, in the same order.
--- First written by tools/prove.py. Assumes nothing.
+-- Assumes nothing.
 use Rattle.sequencer.specs.MemoryWord.{class_in_of}
 use borrow.Author.Tests.{eq-eqb, ne_eqb}
-use Rattle.sequencer.specs.MemoryWord.{class_in_of}
 use Rattle.sequencer.proofs.memory_word.class_in.Goals as goal
 
 pub returns-then-word-eq1 : goal.returns-then-word-eq1

@@ -1,6 +1,5 @@
--- `supervisor::Supervisor::core_step` meets its contract: the core's step, with the two facts as their calls ensure them.
--- First written by tools/prove.py. Assumes nothing.
-use Rattle.supervisor.specs.Supervisor.{core_step_of}
+-- `supervisor::Supervisor::core_step` meets its contract: the core's step, with the two facts as their calls ensure
+-- them. Assumes nothing.
 use Rattle.supervisor.specs.Supervisor.{core_step_of}
 use Rattle.supervisor.proofs.Supervisor.core_step.Goals as goal
 

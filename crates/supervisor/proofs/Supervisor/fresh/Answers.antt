@@ -1,6 +1,4 @@
--- `supervisor::Supervisor::fresh` meets its contract: both parts fresh.
--- First written by tools/prove.py. Assumes nothing.
-use Rattle.supervisor.specs.Supervisor.{fresh_of}
+-- `supervisor::Supervisor::fresh` meets its contract: both parts fresh. Assumes nothing.
 use Rattle.supervisor.specs.Supervisor.{fresh_of}
 use Rattle.supervisor.proofs.Supervisor.fresh.Goals as goal
 

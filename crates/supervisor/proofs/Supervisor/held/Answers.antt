@@ -1,6 +1,5 @@
--- `supervisor::Supervisor::held` meets its contract: the literal is the definition, and the record built anew is the record.
--- First written by tools/prove.py. Assumes nothing.
-use Rattle.supervisor.specs.Supervisor.{held_of}
+-- `supervisor::Supervisor::held` meets its contract: the literal is the definition, and the record built anew is the
+-- record. Assumes nothing.
 use Rattle.supervisor.specs.Supervisor.{held_of}
 use Rattle.supervisor.proofs.Supervisor.held.Goals as goal
 

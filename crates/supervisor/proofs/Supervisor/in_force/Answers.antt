@@ -1,6 +1,4 @@
--- `supervisor::Supervisor::in_force` meets its contract: as its call ensures.
--- First written by tools/prove.py. Assumes nothing.
-use Rattle.supervisor.specs.Supervisor.{in_force_of}
+-- `supervisor::Supervisor::in_force` meets its contract: as its call ensures. Assumes nothing.
 use Rattle.supervisor.specs.Supervisor.{in_force_of}
 use Rattle.supervisor.proofs.Supervisor.in_force.Goals as goal
 

@@ -1,7 +1,5 @@
--- `supervisor::Supervisor::initialized` meets its contract: both parts fresh, with as many branches.
--- First written by tools/prove.py. Assumes nothing.
+-- `supervisor::Supervisor::initialized` meets its contract: both parts fresh, with as many branches. Assumes nothing.
 use Rattle.supervisor.specs.Supervisor.{initialized_of, fresh_of}
-use Rattle.supervisor.specs.Supervisor.{fresh_of, initialized_of}
 use Rattle.supervisor.proofs.Supervisor.initialized.Goals as goal
 
 pub returns : goal.returns

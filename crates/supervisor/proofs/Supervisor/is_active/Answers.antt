@@ -1,6 +1,5 @@
--- `supervisor::Supervisor::is_active` meets its contract: the core's rule, or a branch that is not quiet.
--- First written by tools/prove.py. Assumes nothing.
-use Rattle.supervisor.specs.Supervisor.{is_active_of}
+-- `supervisor::Supervisor::is_active` meets its contract: the core's rule, or a branch that is not quiet. Assumes
+-- nothing.
 use Rattle.supervisor.specs.Supervisor.{is_active_of}
 use Rattle.supervisor.proofs.Supervisor.is_active.Goals as goal
 

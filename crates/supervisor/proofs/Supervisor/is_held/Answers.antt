@@ -1,6 +1,4 @@
--- `supervisor::Supervisor::is_held` meets its contract: as its call ensures.
--- First written by tools/prove.py. Assumes nothing.
-use Rattle.supervisor.specs.Supervisor.{is_held_of}
+-- `supervisor::Supervisor::is_held` meets its contract: as its call ensures. Assumes nothing.
 use Rattle.supervisor.specs.Supervisor.{is_held_of}
 use Rattle.supervisor.proofs.Supervisor.is_held.Goals as goal
 

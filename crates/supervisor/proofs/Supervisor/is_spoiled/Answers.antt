@@ -1,6 +1,5 @@
--- `supervisor::Supervisor::is_spoiled` meets its contract: both parts' tests, as their calls ensure them.
--- First written by tools/prove.py. Assumes nothing.
-use Rattle.supervisor.specs.Supervisor.{is_spoiled_of}
+-- `supervisor::Supervisor::is_spoiled` meets its contract: both parts' tests, as their calls ensure them. Assumes
+-- nothing.
 use Rattle.supervisor.specs.Supervisor.{is_spoiled_of}
 use Rattle.supervisor.proofs.Supervisor.is_spoiled.Goals as goal
 

@@ -1,6 +1,4 @@
--- `supervisor::Supervisor::ran` meets its contract: the two steps, joined.
--- First written by tools/prove.py. Assumes nothing.
-use Rattle.supervisor.specs.Supervisor.{ran_of}
+-- `supervisor::Supervisor::ran` meets its contract: the two steps, joined. Assumes nothing.
 use Rattle.supervisor.specs.Supervisor.{ran_of}
 use Rattle.supervisor.proofs.Supervisor.ran.Goals as goal
 

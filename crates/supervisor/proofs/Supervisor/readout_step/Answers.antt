@@ -1,6 +1,5 @@
--- `supervisor::Supervisor::readout_step` meets its contract: the readout's step, with the word that the outcome loads.
--- First written by tools/prove.py. Assumes nothing.
-use Rattle.supervisor.specs.Supervisor.{readout_step_of}
+-- `supervisor::Supervisor::readout_step` meets its contract: the readout's step, with the word that the outcome
+-- loads. Assumes nothing.
 use Rattle.supervisor.specs.Supervisor.{readout_step_of}
 use Rattle.supervisor.proofs.Supervisor.readout_step.Goals as goal
 

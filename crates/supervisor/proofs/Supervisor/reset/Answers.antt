@@ -1,6 +1,4 @@
--- `supervisor::Supervisor::reset` meets its contract: both parts reset.
--- First written by tools/prove.py. Assumes nothing.
-use Rattle.supervisor.specs.Supervisor.{reset_of}
+-- `supervisor::Supervisor::reset` meets its contract: both parts reset. Assumes nothing.
 use Rattle.supervisor.specs.Supervisor.{reset_of}
 use Rattle.supervisor.proofs.Supervisor.reset.Goals as goal
 

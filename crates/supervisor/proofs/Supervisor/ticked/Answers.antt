@@ -1,6 +1,4 @@
--- `supervisor::Supervisor::ticked` meets its contract: by the test between the two ticks.
--- First written by tools/prove.py. Assumes nothing.
-use Rattle.supervisor.specs.Supervisor.{ticked_of}
+-- `supervisor::Supervisor::ticked` meets its contract: by the test between the two ticks. Assumes nothing.
 use Rattle.supervisor.specs.Supervisor.{ticked_of}
 use Rattle.supervisor.proofs.Supervisor.ticked.Goals as goal
 

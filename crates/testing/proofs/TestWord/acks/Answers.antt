@@ -1,8 +1,7 @@
--- `testing::TestWord::acks` meets its contract: a byte of ones for each bit that is set (`acks_by_branch`).
--- First written by tools/prove.py. Assumes nothing.
+-- `testing::TestWord::acks` meets its contract: a byte of ones for each bit that is set (`acks_by_branch`). Assumes
+-- nothing.
 use Rattle.testing.specs.TestWord.{acknowledges, acks_of}
 use Rattle.testing.proofs.TestingLaws.{acks_by_branch}
-use Rattle.testing.specs.TestWord.{acks_of}
 use Rattle.testing.proofs.TestWord.acks.Goals as goal
 
 pub returns : goal.returns

@@ -1,6 +1,4 @@
--- `testing::TestWord::in_force` meets its contract: by the mode.
--- First written by tools/prove.py. Assumes nothing.
-use Rattle.testing.specs.InForce.{in_force_of}
+-- `testing::TestWord::in_force` meets its contract: by the mode. Assumes nothing.
 use Rattle.testing.specs.InForce.{in_force_of}
 use Rattle.testing.proofs.TestWord.in_force.Goals as goal
 

@@ -1,8 +1,7 @@
 -- `testing::TestWord::lines` meets its contract: eight bits in a row, the last of them 0, are the seven lines.
--- First written by tools/prove.py. Assumes nothing.
+-- Assumes nothing.
 use Rattle.testing.specs.TestWord.{lines_of}
 use Rattle.bits.specs.Bits as bits
-use Rattle.testing.specs.TestWord.{lines_of}
 use Rattle.testing.proofs.TestWord.lines.Goals as goal
 
 pub returns : goal.returns

@@ -1,6 +1,4 @@
--- `testing::TestWord::written` meets its contract: the bits taken are set.
--- First written by tools/prove.py. Assumes nothing.
-use Rattle.testing.specs.TestWord.{written_of}
+-- `testing::TestWord::written` meets its contract: the bits taken are set. Assumes nothing.
 use Rattle.testing.specs.TestWord.{written_of}
 use Rattle.testing.proofs.TestWord.written.Goals as goal
 

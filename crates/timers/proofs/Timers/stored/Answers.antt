@@ -1,8 +1,6 @@
--- `timers::Timers::stored` meets its contract: one return for each timer.
--- First written by tools/prove.py. Assumes nothing.
+-- `timers::Timers::stored` meets its contract: one return for each timer. Assumes nothing.
 use Rattle.timers.specs.Timers.{stored_of}
 use borrow.Author.Tests.{eq-eqb, ne_eqb}
-use Rattle.timers.specs.Timers.{stored_of}
 use Rattle.timers.proofs.Timers.stored.Goals as goal
 
 pub returns-then-n-eq1 : goal.returns-then-n-eq1

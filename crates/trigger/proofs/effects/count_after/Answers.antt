@@ -1,6 +1,5 @@
 -- `trigger::effects::count_after` meets its contract: one return for each choice, each the count of its counter.
--- First written by tools/prove.py. Assumes nothing.
-use Rattle.trigger.specs.Effects.{sync_after_of}
+-- Assumes nothing.
 use Rattle.trigger.specs.Effects.{sync_after_of}
 use Rattle.trigger.proofs.effects.count_after.Goals as goal
 

@@ -1,9 +1,7 @@
--- `trigger::effects::csr_after` meets its contract: where nothing ends the marks alone (`nothing_ended`), else
--- three changes in a row, each as its call ensures.
--- First written by tools/prove.py. Assumes nothing.
+-- `trigger::effects::csr_after` meets its contract: where nothing ends the marks alone (`nothing_ended`), else three
+-- changes in a row, each as its call ensures. Assumes nothing.
 use Rattle.trigger.specs.Effects.{csr_after_of}
 use Rattle.trigger.proofs.EffectsLaws.{nothing_ended}
-use Rattle.trigger.specs.Effects.{csr_after_of}
 use Rattle.trigger.proofs.effects.csr_after.Goals as goal
 
 pub returns-then-not-m-u : goal.returns-then-not-m-u

@@ -1,6 +1,5 @@
--- `registers::control::Control::counted` meets its contract: its test is the strobe's part of the rule, and each return
--- has the rule's bits (`counted_when_open`, `counted_when_shut`).
--- Written by hand over the lines that `rt dev` prints. Assumes nothing.
+-- `registers::control::Control::counted` meets its contract: its test is the strobe's part of the rule, and each
+-- return has the rule's bits (`counted_when_open`, `counted_when_shut`). Assumes nothing.
 use mathlib.Core.Path.{sym, ap, ◌∙◌}
 use mathlib.Core.Bool.{Bool, not, ◌||◌}
 use Rattle.registers.proofs.ControlLaws.{counted_when_open, counted_when_shut}

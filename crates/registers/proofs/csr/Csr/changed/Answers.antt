@@ -1,7 +1,5 @@
--- `registers::csr::Csr::changed` meets its contract:
--- GO is read before the write and after set and clear; the last call clears the status bits or nothing.
--- First written by tools/prove.py. Assumes nothing.
-use Rattle.registers.specs.Csr.{changed_of}
+-- `registers::csr::Csr::changed` meets its contract: GO is read before the write and after set and clear; the last
+-- call clears the status bits or nothing. Assumes nothing.
 use Rattle.registers.specs.Csr.{changed_of}
 use Rattle.registers.proofs.csr.Csr.changed.Goals as goal
 

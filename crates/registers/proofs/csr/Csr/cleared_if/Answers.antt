@@ -1,6 +1,4 @@
--- `registers::csr::Csr::cleared_if` meets its contract: each answer is one side of the test.
--- First written by tools/prove.py. Assumes nothing.
-use Rattle.registers.specs.Csr.{cleared_if_of}
+-- `registers::csr::Csr::cleared_if` meets its contract: each answer is one side of the test. Assumes nothing.
 use Rattle.registers.specs.Csr.{cleared_if_of}
 use Rattle.registers.proofs.csr.Csr.cleared_if.Goals as goal
 

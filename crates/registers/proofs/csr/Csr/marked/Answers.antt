@@ -1,6 +1,5 @@
 -- `registers::csr::Csr::marked` meets its contract: the marks are cut to the status bits, then set by `bits::set`.
--- First written by tools/prove.py. Assumes nothing.
-use Rattle.registers.specs.Csr.{marked_of}
+-- Assumes nothing.
 use Rattle.registers.specs.Csr.{marked_of}
 use Rattle.registers.proofs.csr.Csr.marked.Goals as goal
 

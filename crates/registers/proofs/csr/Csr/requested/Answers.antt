@@ -1,6 +1,5 @@
--- `registers::csr::Csr::requested` meets its contract: bit 15 is tested before bit 14, as in the definition.
--- First written by tools/prove.py. Assumes nothing.
-use Rattle.registers.specs.Csr.{requested_of}
+-- `registers::csr::Csr::requested` meets its contract: bit 15 is tested before bit 14, as in the definition. Assumes
+-- nothing.
 use Rattle.registers.specs.Csr.{requested_of}
 use Rattle.registers.proofs.csr.Csr.requested.Goals as goal
 

@@ -1,6 +1,5 @@
 -- `registers::csr::Csr::set_then_cleared` meets its contract: set, then clear, in the order of the definition.
--- First written by tools/prove.py. Assumes nothing.
-use Rattle.registers.specs.Csr.{set_then_cleared_of}
+-- Assumes nothing.
 use Rattle.registers.specs.Csr.{set_then_cleared_of}
 use Rattle.registers.proofs.csr.Csr.set_then_cleared.Goals as goal
 

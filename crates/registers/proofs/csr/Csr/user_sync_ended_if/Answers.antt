@@ -1,6 +1,4 @@
--- `registers::csr::Csr::user_sync_ended_if` meets its contract: one return for each choice.
--- First written by tools/prove.py. Assumes nothing.
-use Rattle.registers.specs.Csr.{user_sync_ended_if_of}
+-- `registers::csr::Csr::user_sync_ended_if` meets its contract: one return for each choice. Assumes nothing.
 use Rattle.registers.specs.Csr.{user_sync_ended_if_of}
 use Rattle.registers.proofs.csr.Csr.user_sync_ended_if.Goals as goal
 

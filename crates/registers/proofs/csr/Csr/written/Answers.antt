@@ -1,6 +1,5 @@
 -- `registers::csr::Csr::written` meets its contract: the request is decided first, and the next CSR follows it.
--- First written by tools/prove.py. Assumes nothing.
-use Rattle.registers.specs.Csr.{written_of}
+-- Assumes nothing.
 use Rattle.registers.specs.Csr.{written_of}
 use Rattle.registers.proofs.csr.Csr.written.Goals as goal
 

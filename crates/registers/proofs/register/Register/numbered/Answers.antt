@@ -1,6 +1,5 @@
--- `registers::register::Register::numbered` meets its contract:
--- each answer is reached by the tests that the definition makes, in the same order; a factor and a timer count from 1.
--- Written by tools/prove.py; the last lines of `returns-3` and `returns-6` by hand. Assumes nothing.
+-- `registers::register::Register::numbered` meets its contract: each answer is reached by the tests that the
+-- definition makes, in the same order; a factor and a timer count from 1. Assumes nothing.
 use Rattle.registers.specs.Registers.{numbered_of}
 use Prim.Native.Nat.{ℕ}
 use mathlib.Core.Path.{ap}
@@ -9,7 +8,6 @@ use Rattle.registers.specs.declared.register.Setting.TheVariants.{Factor, Timer}
 use Rattle.registers.specs.declared.register.Register.TheVariants.{Setting}
 use borrow.Author.Tests.{eq-eqb, le-ltb, lt-ltb, ne_eqb}
 use Rattle.std.proofs.Common.{ℕ}
-use Rattle.registers.specs.Registers.{numbered_of}
 use Rattle.registers.proofs.register.Register.numbered.Goals as goal
 
 pub returns-then-number-eq-CSR : goal.returns-then-number-eq-CSR

@@ -1,8 +1,7 @@
--- `sequencer::main_sequencer::MainSequencer::accepted` meets its contract: the class that the code tests is the word's, and each arm sets the fields that the accept names.
--- Written by tools/prove.py; the direction of one fact was changed by hand. Assumes nothing.
+-- `sequencer::main_sequencer::MainSequencer::accepted` meets its contract: the class that the code tests is the
+-- word's, and each arm sets the fields that the accept names. Assumes nothing.
 use Rattle.sequencer.specs.MainSequencer.{accepted_of}
 use borrow.Author.Tests.{eq-eqb, ne_eqb}
-use Rattle.sequencer.specs.MainSequencer.{accepted_of}
 use Rattle.sequencer.proofs.main_sequencer.MainSequencer.accepted.Goals as goal
 
 pub returns-then-class-eq1 : goal.returns-then-class-eq1

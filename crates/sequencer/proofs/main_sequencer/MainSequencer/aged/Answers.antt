@@ -1,8 +1,7 @@
--- `sequencer::main_sequencer::MainSequencer::aged` meets its contract: at Idle and at the limit the fields stay as they were, else the age is one more.
--- First written by tools/prove.py. Assumes nothing.
+-- `sequencer::main_sequencer::MainSequencer::aged` meets its contract: at Idle and at the limit the fields stay as
+-- they were, else the age is one more. Assumes nothing.
 use Rattle.sequencer.specs.MainSequencer.{aged_of}
 use borrow.Author.Tests.{le-ltb, lt-ltb}
-use Rattle.sequencer.specs.MainSequencer.{aged_of}
 use Rattle.sequencer.proofs.main_sequencer.MainSequencer.aged.Goals as goal
 
 pub returns-then-is_idle : goal.returns-then-is_idle

@@ -1,6 +1,5 @@
--- `sequencer::main_sequencer::MainSequencer::is_well_formed` meets its contract: its three tests are those of the definition, one for one.
--- First written by tools/prove.py. Assumes nothing.
-use Rattle.sequencer.specs.MainSequencer.{is_well_formed_of}
+-- `sequencer::main_sequencer::MainSequencer::is_well_formed` meets its contract: its three tests are those of the
+-- definition, one for one. Assumes nothing.
 use Rattle.sequencer.specs.MainSequencer.{is_well_formed_of}
 use Rattle.sequencer.proofs.main_sequencer.MainSequencer.is_well_formed.Goals as goal
 

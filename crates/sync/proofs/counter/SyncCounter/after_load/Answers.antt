@@ -1,8 +1,7 @@
--- `sync::counter::SyncCounter::after_load` meets its contract: a count that reaches the interval stays; below it, one more fits 16 bits.
--- First written by tools/prove.py. Assumes nothing.
+-- `sync::counter::SyncCounter::after_load` meets its contract: a count that reaches the interval stays; below it, one
+-- more fits 16 bits. Assumes nothing.
 use Rattle.sync.specs.SyncCounter.{after_load_of}
 use borrow.Author.Tests.{le-leb, lt-leb}
-use Rattle.sync.specs.SyncCounter.{after_load_of}
 use Rattle.sync.proofs.counter.SyncCounter.after_load.Goals as goal
 
 pub returns-then-interval-next : goal.returns-then-interval-next

@@ -1,8 +1,7 @@
--- `sync::user::UserSync::step` meets its contract: its three bools are the moves (`user_step_by_choices`).
--- Written by hand over the lines that `rt dev` prints. Assumes nothing.
+-- `sync::user::UserSync::step` meets its contract: its three bools are the moves (`user_step_by_choices`). Assumes
+-- nothing.
 use Rattle.sync.specs.UserSync.{step_of}
 use Rattle.sync.proofs.SyncLaws.{user_step_by_choices}
-use Rattle.sync.specs.UserSync.{step_of}
 use Rattle.sync.proofs.user.UserSync.step.Goals as goal
 
 pub returns : goal.returns
