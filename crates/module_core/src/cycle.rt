@@ -87,7 +87,8 @@ impl Core {
         ensures { result ≡ main_cycled_of room empty lines latch word self }
     {
         let main = self.main;
-        if latch.accepted != 0 {
+        let is_accepted = latch.accepted != 0;
+        if is_accepted {
             return marked(quiet_step(main.accepted(word)), true);
         }
         self.cycle_step(lines, room, empty)

@@ -165,7 +165,8 @@ impl MainSequencer {
         next.code = code_in(word);
         next.accept = accept_in(word);
         next.raised = next.raised | MainSequencer::OK;
-        if class == 1 {
+        let enters_delay = class == 1;
+        if enters_delay {
             return next.with_state(State::Delay);
         }
         next.raised = next.raised | MainSequencer::START2;

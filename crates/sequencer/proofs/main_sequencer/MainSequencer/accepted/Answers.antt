@@ -4,15 +4,15 @@ use Rattle.sequencer.specs.MainSequencer.{accepted_of}
 use borrow.Author.Tests.{eq-eqb, ne_eqb}
 use Rattle.sequencer.proofs.main_sequencer.MainSequencer.accepted.Goals as goal
 
-pub returns-then-class-eq1 : goal.returns-then-class-eq1
+pub returns-then-enters_delay : goal.returns-then-enters_delay
 unfolding accepted_of
-returns-then-class-eq1 c =
+returns-then-enters_delay c =
     rw (
       c.with_state.ensures,
       c.accept_in.ensures,
       c.code_in.ensures,
       ← c.class_in-class.ensures,
-      eq-eqb _ _ c.if-class-eq1.true,
+      eq-eqb _ _ c.if-enters_delay.true,
     )
 
 pub returns : goal.returns
@@ -23,5 +23,5 @@ returns c =
       c.accept_in.ensures,
       c.code_in.ensures,
       ← c.class_in-class.ensures,
-      ne_eqb _ _ c.if-class-eq1.false,
+      ne_eqb _ _ c.if-enters_delay.false,
     )
