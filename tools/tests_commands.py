@@ -136,11 +136,11 @@ class Console(unittest.TestCase):
     def test_failures(self):
         done = ran(TOP / "console", TOP)
         self.assertEqual((done.returncode, done.stdout), (1, ""))
-        self.assertIn("Error: Os { code: 21,", done.stderr)
+        self.assertIn("standard input: ", done.stderr)
         with open("/dev/full", "wb") as full:
             done = subprocess.run([TOP / "console", FIRST], stdout=full, stderr=subprocess.PIPE)
         self.assertEqual(done.returncode, 1)
-        self.assertIn(b"Error: Os { code: 28,", done.stderr)
+        self.assertIn(b"standard output: ", done.stderr)
         self.assertEqual(ran(TOP / "console", "no such file").returncode, 1)
 
     def test_words(self):

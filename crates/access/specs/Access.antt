@@ -8,8 +8,8 @@
 -- A value is cut to the width of its place; one that does not fit never comes this far ([Declines.2d]).
 -- Own rules of 01 used here: none. Decisions: R7, R8, R9. Left out: STATE's bits, in state.
 -- Assumes nothing.
-use Rattle.std.specs.Prelude.{ℕ, ◌%◌, ◌^◌, Bool}
-use Rattle.bits.specs.Notation.{if◌then◌else◌, ◌▷◌}
+use Rattle.std.specs.Prelude.{ℕ, ◌%◌, ◌^◌, Bool, if◌then◌else◌}
+use Rattle.bits.specs.Notation.{◌▷◌}
 use Rattle.run.specs.Run.{overlaid_of, cut_of}
 use Rattle.run.specs.declared.Run.{Run}
 use Rattle.registers.specs.Csr as csr

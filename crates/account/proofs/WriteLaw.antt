@@ -120,7 +120,7 @@ module _ (b : Prescalers) {control : ℕ} {s : Settings} {q : Passes} (v : Setti
     count_loaded : (i : ℕ) → i < inputs → (here : Bool) → eqb i k ≡ here → cond here true (s.owed i) ≡ true
         → PassCount (cond here 0 (q.n i)) (cond here 0 (q.p i)) (counter_at (written true) i) (factor_at (written true) i)
     count_loaded i h true e owed =
-        load.with-factor-has-pass-count input x b i (place_of i e) (omega (arith, place_of i e)) v.eight
+        load.with_factor_has_pass_count input x b i (place_of i e) (omega (arith, place_of i e)) v.eight
     count_loaded i h false e owed = count_elsewhere true i h e owed
 
     -- [Bytes.10a] no load: it is owed only where the factor is what it was

@@ -8,8 +8,8 @@
 -- inputs are enabled and which pulses count, what a mask's bit is, which outcome an answer reports and the word in it.
 -- Own rules of 01 used here: none. Decisions: R7, T9. Left out: how the modes follow the log, in declines.
 -- Assumes nothing.
-use Rattle.std.specs.Prelude.{ℕ, ◌+◌, ◌-◌, Bool, true, not, ◌&&◌, ◌||◌, List, [], ◌++◌, ◌==◌, slice_index_or}
-use Rattle.bits.specs.Notation.{if◌then◌else◌, ◌▷◌}
+use Rattle.std.specs.Prelude.{ℕ, ◌+◌, ◌-◌, Bool, true, not, ◌&&◌, ◌||◌, List, [], ◌++◌, ◌==◌, slice_index_or, if◌then◌else◌}
+use Rattle.bits.specs.Notation.{◌▷◌}
 use Rattle.bits.specs.Bits.{bit_at, one_if_of}
 use Rattle.run.specs.Run.{has_byte3, overlaid_of}
 use Rattle.run.specs.declared.Run.{Run}

@@ -8,8 +8,7 @@
 --     with_settings and so on: one part changed
 --     put f k v   the rule f with v at k
 -- Assumes nothing.
-use Rattle.std.specs.Prelude.{ℕ, Bool, false, List, ◌==◌}
-use Rattle.bits.specs.Notation.{if◌then◌else◌}
+use Rattle.std.specs.Prelude.{ℕ, Bool, false, List, ◌==◌, if◌then◌else◌}
 use Rattle.declines.specs.Modes.{Modes}
 
 -- [Account.3] whole numbers without limit, for every input

@@ -7,8 +7,7 @@
 --     read_out, high_bits, decline   and in the replies to other asks
 -- Own rules of 01 used here: none. Decisions: none. Left out: nothing.
 -- Assumes nothing.
-use Rattle.std.specs.Prelude.{ℕ, zero, suc, ◌+◌, List, [], ◌∷◌, slice_index, slice_index_or}
-use Rattle.bits.specs.Notation.{if◌then◌else◌}
+use Rattle.std.specs.Prelude.{ℕ, zero, suc, ◌+◌, List, [], ◌∷◌, slice_index, slice_index_or, if◌then◌else◌}
 use Rattle.bits.specs.Bits.{bit_at, one_if_of}
 use Rattle.branch.specs.Slots.{word_of}
 use Rattle.branches.specs.Readout.{no_side}

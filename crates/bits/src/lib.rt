@@ -2,8 +2,7 @@
 // The definitions are in specs/, their laws in proofs/.
 #![tactic(auto)]
 
-ghost use Rattle.std.specs.Prelude.{◌≡◌, false, ◌≤◌, ◌<◌, get_or};
-ghost use Rattle.bits.specs.Notation.{if◌then◌else◌};
+ghost use Rattle.std.specs.Prelude.{◌≡◌, false, ◌≤◌, ◌<◌, get_or, if◌then◌else◌};
 ghost use Rattle.bits.specs.Bits.{bit_at, one_if_of, mask_of, set_of, clear_of, has_only};
 ghost use Rattle.bits.specs.Bytes.{bytes_of};
 

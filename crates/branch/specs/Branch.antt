@@ -7,9 +7,9 @@
 --     is_well_formed_of   nothing in this branch spoils the record; WellFormedBranch says the same as facts
 -- Own rules of 01 used here: none. Decisions: B1–B3, B5. Left out: the depth of 1 by CSR bits 9 and 10, in branches.
 -- Assumes nothing.
-use Rattle.std.specs.Prelude.{ℕ, ◌+◌, ◌-◌, ◌*◌, ◌/◌, ◌%◌, ◌^◌, ◌<◌, ◌≤◌, ◌≡◌, Bool, true, false, not, ◌&&◌, ◌||◌, List, eqb, leb, ltb}
+use Rattle.std.specs.Prelude.{ℕ, ◌+◌, ◌-◌, ◌*◌, ◌/◌, ◌%◌, ◌^◌, ◌<◌, ◌≤◌, ◌≡◌, Bool, true, false, not, ◌&&◌, ◌||◌, List, eqb, leb, ltb, if◌then◌else◌}
 use Rattle.std.specs.Int.Bits.{bit_and, bit_or}
-use Rattle.bits.specs.Notation.{if◌then◌else◌, ◌▷◌}
+use Rattle.bits.specs.Notation.{◌▷◌}
 use Rattle.bits.specs.Bytes.{bytes, all_of}
 use Rattle.branch.specs.BranchFields.{with_words, with_len, with_phase}
 use Rattle.branch.specs.Slots.{words_in}

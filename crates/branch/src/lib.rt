@@ -3,9 +3,8 @@
 // no index and no loop. Every public contract is an equality with a definition of specs/Branch.antt.
 #![tactic(auto)]
 
-ghost use Rattle.std.specs.Prelude.{◌≡◌, ◌&&◌, ◌+◌, ◌-◌, ◌*◌, ◌%◌, ◌^◌, ltb};
+ghost use Rattle.std.specs.Prelude.{◌≡◌, ◌&&◌, ◌+◌, ◌-◌, ◌*◌, ◌%◌, ◌^◌, ltb, if◌then◌else◌};
 ghost use Rattle.std.specs.Int.Bits.{bit_or};
-ghost use Rattle.bits.specs.Notation.{if◌then◌else◌};
 ghost use Rattle.bits.specs.Bytes.{bytes, all_of};
 ghost use Rattle.branch.specs.Slots.{is_word_of, word_of};
 ghost use Rattle.branch.specs.Branch.{queue_depth, is_six_bit, fresh_of, is_rest_of, is_strobe_of, all_high, all_low};

@@ -9,6 +9,7 @@
 --     standing_finishes_nothing, standing_shows   a held tick finishes nothing, and shows what stands
 -- Place k is branch k + 1.
 -- Assumes nothing.
+use Rattle.std.specs.Prelude.{if◌then◌else◌}
 use Prim.Native.Nat.{ℕ, ◌%◌, ◌<◌}
 use mathlib.Core.Path.{◌≡◌, refl, ap, ◌∙◌}
 use mathlib.Core.Bool.{Bool, true, false, not, ◌&&◌, ◌||◌}
@@ -17,7 +18,6 @@ use native.Mathlib.Omega.{arith}
 use lib.Dec.{eqb, ltb}
 use lib.ListN.{length, get_or, length-replicate, get_or-replicate}
 use borrow.Author.Tests.{ltb-true, ltb-false, not-true}
-use Rattle.bits.specs.Notation.{if◌then◌else◌}
 use Rattle.bits.specs.Bits.{tabulate}
 use Rattle.bits.specs.Bytes.{bytes}
 use Rattle.bits.proofs.TestLaws.{and_left, and_right, every_at, or_rest}

@@ -13,8 +13,8 @@
 -- Place k is branch k + 1.
 -- Own rules of 01 and 02 used here: none. Decisions: B4, B6, T4, A4, R6. Left out: nothing.
 -- Assumes nothing.
-use Rattle.std.specs.Prelude.{ℕ, ◌%◌, Bool, not, ◌&&◌, ◌||◌, List, [], ◌∷◌, eqb, ltb, length, replicate}
-use Rattle.bits.specs.Notation.{if◌then◌else◌, ◌▷◌}
+use Rattle.std.specs.Prelude.{ℕ, ◌%◌, Bool, not, ◌&&◌, ◌||◌, List, [], ◌∷◌, eqb, ltb, length, replicate, if◌then◌else◌}
+use Rattle.bits.specs.Notation.{◌▷◌}
 use Rattle.bits.specs.Bits.{tabulate, every}
 use Rattle.bits.specs.Bytes.{byte_at}
 use Rattle.branch.specs.Branch as branch

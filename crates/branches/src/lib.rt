@@ -4,11 +4,10 @@
 // of each branch is in handshakes, what a held tick shows in standing.
 #![tactic(auto)]
 
-ghost use Rattle.std.specs.Prelude.{◌≡◌, length};
+ghost use Rattle.std.specs.Prelude.{◌≡◌, length, if◌then◌else◌};
 ghost use Rattle.branches.specs.Readout.{module_branches, fresh_of, emptied_of, is_empty_of, has_room_of};
 ghost use Rattle.branches.specs.Readout.{is_quiet_of, side_after_of, gathered_of, silent_of, step_of};
 ghost use Rattle.branches.specs.Readout.{is_sound_branch_of, is_well_formed_of};
-ghost use Rattle.bits.specs.Notation.{if◌then◌else◌};
 ghost use Rattle.branch.specs.Branch.{queue_depth};
 
 use branch::{Branch, BranchStep, Slot};

@@ -1,8 +1,7 @@
 -- What is claimed of document 02's request N4, register access by a run of bytes, for every value of the types.
 -- proofs/BytesProved.antt proves each by citing its law.
 -- Assumes nothing.
-use Rattle.std.specs.Prelude.{◌≡◌, ℕ, suc, ◌-◌, ◌/◌, ◌<◌, true, false, List}
-use Rattle.bits.specs.Notation.{if◌then◌else◌}
+use Rattle.std.specs.Prelude.{◌≡◌, ℕ, suc, ◌-◌, ◌/◌, ◌<◌, true, false, List, if◌then◌else◌}
 use Rattle.bits.specs.Bits.{bit_at}
 use Rattle.run.specs.Run.{run, ten_runs, is_in, is_run_of, holds_byte, has_byte3, overlaid_of, cut_of}
 use Rattle.run.specs.declared.Run.{Run}

@@ -31,11 +31,23 @@ fn read_all<R: Read>(input: &mut R, buf: &mut [u8]) -> io::Result<usize>
     Ok(at)
 }
 
+// A read or a write that fails is named on standard error.
+fn failed(rt: &HostRuntime, what: &str, error: io::Error) -> io::Result<()> {
+    eprintln!(rt; "{what}: {error}")?;
+    Err(error)
+}
+
 fn main(rt: HostRuntime) -> io::Result<()> {
     let mut buf = input_buffer();
     let mut input = rt.stdin();
-    let len = read_all(&mut input, &mut buf)?;
+    let len = match read_all(&mut input, &mut buf) {
+        Ok(len) => len,
+        Err(error) => return failed(&rt, "standard input", error),
+    };
     let mut out = script::output_buffer();
     let printed = script::answers(&buf[..len], &mut out);
-    rt.stdout().write_all(&out[..printed])
+    match rt.stdout().write_all(&out[..printed]) {
+        Ok(()) => Ok(()),
+        Err(error) => failed(&rt, "standard output", error),
+    }
 }

@@ -5,8 +5,7 @@
 --     memory_filled_of   the memory after it
 -- Own rules of 02 used here: none. Decisions: H1, H2, H3. Left out: the word at each place, in table.
 -- Assumes nothing.
-use Rattle.std.specs.Prelude.{ℕ, not, List, length, ◌==◌}
-use Rattle.bits.specs.Notation.{if◌then◌else◌}
+use Rattle.std.specs.Prelude.{ℕ, not, List, length, ◌==◌, if◌then◌else◌}
 use Rattle.registers.specs.Csr as csr
 use Rattle.table.specs.Table.{are_taken, table_of}
 use Rattle.supervisor.specs.Supervisor.{is_active_of, is_spoiled_of}

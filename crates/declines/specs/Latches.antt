@@ -8,8 +8,8 @@
 --     LatchStands     such calls leave it as it is: all of them, refused ones among them
 -- Own rules of 02 used here: none. Decisions: R7. Left out: nothing.
 -- Assumes nothing.
-use Rattle.std.specs.Prelude.{◌≡◌, ℕ, ◌+◌, ◌<◌, Bool, true, false, not, ◌&&◌, List, ◌==◌}
-use Rattle.bits.specs.Notation.{if◌then◌else◌, ◌▷◌}
+use Rattle.std.specs.Prelude.{◌≡◌, ℕ, ◌+◌, ◌<◌, Bool, true, false, not, ◌&&◌, List, ◌==◌, if◌then◌else◌}
+use Rattle.bits.specs.Notation.{◌▷◌}
 use Rattle.run.specs.Run.{has_byte3, cut_of}
 use Rattle.run.specs.declared.Run.{Run}
 use Rattle.registers.specs.Registers.{numbered_of}

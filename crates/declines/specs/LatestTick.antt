@@ -5,8 +5,7 @@
 --     KeepsTheLatestTick   that it is what the record keeps, after every list of calls from a fresh supervisor
 -- Own rules of 02 used here: none. Decisions: R6, T9. Left out: nothing.
 -- Assumes nothing.
-use Rattle.std.specs.Prelude.{◌≡◌, ℕ, List}
-use Rattle.bits.specs.Notation.{if◌then◌else◌}
+use Rattle.std.specs.Prelude.{◌≡◌, ℕ, List, if◌then◌else◌}
 use Rattle.run.specs.declared.Run.{Run}
 use Rattle.registers.specs.declared.csr.Request.{Request}
 use Rattle.registers.specs.declared.csr.Request.TheVariants.{Nothing, Reset, Initialize}

@@ -7,8 +7,7 @@
 --     FollowsTheModes   that the two agree, after every list of calls from a fresh supervisor
 -- Own rules of 02 used here: none. Decisions: R9, T9. Left out: nothing.
 -- Assumes nothing.
-use Rattle.std.specs.Prelude.{◌≡◌, ℕ, Bool, false, not, ◌||◌, List}
-use Rattle.bits.specs.Notation.{if◌then◌else◌}
+use Rattle.std.specs.Prelude.{◌≡◌, ℕ, Bool, false, not, ◌||◌, List, if◌then◌else◌}
 use Rattle.bits.specs.Bits.{bit_at, bits_from, set_of, clear_of}
 use Rattle.run.specs.Run.{cut_of}
 use Rattle.run.specs.declared.Run.{Run}

@@ -7,10 +7,9 @@
 --     step_loads_six_bits       the word that it loads has six bits
 --     step_loads_below_eight    it loads one only where no queue may hold eight words
 -- Assumes nothing.
-use Rattle.std.specs.Prelude.{◌≡◌, ℕ, suc, ◌+◌, ◌<◌, Bool, true, false, not, ◌&&◌, leb, List}
+use Rattle.std.specs.Prelude.{◌≡◌, ℕ, suc, ◌+◌, ◌<◌, Bool, true, false, not, ◌&&◌, leb, List, if◌then◌else◌}
 use mathlib.Core.Path.{refl, sym, ap, ◌∙◌}
 use native.Mathlib.Omega.{arith}
-use Rattle.bits.specs.Notation.{if◌then◌else◌}
 use Rattle.bits.specs.Bits.{bit_at, one_if_of}
 use Rattle.bits.specs.Bytes.{all_of}
 use Rattle.bits.proofs.TestLaws.{and_left, by_cond}

@@ -11,8 +11,8 @@
 -- inputs are those in force, and the tick runs: testing says which, supervisor when.
 -- Own rules of 01 used here: none. Decisions: T1, T2, T4, T8, R6, A4. Left out: the spoiled rule, in Spoiled.
 -- Assumes nothing.
-use Rattle.std.specs.Prelude.{ℕ, ◌+◌, ◌*◌, ◌%◌, Bool, not, ◌&&◌, ◌||◌, List}
-use Rattle.bits.specs.Notation.{if◌then◌else◌, ◌▷◌}
+use Rattle.std.specs.Prelude.{ℕ, ◌+◌, ◌*◌, ◌%◌, Bool, not, ◌&&◌, ◌||◌, List, if◌then◌else◌}
+use Rattle.bits.specs.Notation.{◌▷◌}
 use Rattle.bits.specs.Bits.{one_if_of}
 use Rattle.registers.specs.Csr as csr
 use Rattle.registers.specs.Control as control

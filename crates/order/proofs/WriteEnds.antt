@@ -6,9 +6,9 @@
 --     ended          the session after a write that comes to this
 --     EndsBy, write_ends   every such write ends so
 -- Assumes nothing.
+use Rattle.std.specs.Prelude.{if◌then◌else◌}
 use Rattle.std.proofs.Common.{◌≡◌, ℕ, Bool, true, false, cond, not, ◌&&◌, eqb, leb, length, set, refl, arith}
 use borrow.Author.Tests.{not-false}
-use Rattle.bits.specs.Notation.{if◌then◌else◌}
 use Rattle.run.specs.Run.{is_run_of, has_byte3}
 use Rattle.run.specs.declared.Run.{Run}
 use Rattle.registers.specs.Csr.{write_error}

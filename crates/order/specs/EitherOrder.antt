@@ -9,8 +9,7 @@
 -- written by a run of bytes, which may be none of the ten; a plain write is that of the whole run ([Bytes.2]).
 -- Own rules of 02 used here: none. Decisions: O1. Left out: what does depend on the order, in OrderExamples.
 -- Assumes nothing.
-use Rattle.std.specs.Prelude.{◌≡◌, ℕ, Bool, true, false, not, ◌&&◌, List, [], ◌∷◌, ◌==◌}
-use Rattle.bits.specs.Notation.{if◌then◌else◌}
+use Rattle.std.specs.Prelude.{◌≡◌, ℕ, Bool, true, false, not, ◌&&◌, List, [], ◌∷◌, ◌==◌, if◌then◌else◌}
 use Rattle.registers.specs.Registers.{numbered_of, facts_of}
 use Rattle.declines.specs.Answers.{Reply}
 use Rattle.declines.specs.Runs.{Ask, write_register, read_register, write_memory, read_memory, fill_memory, tick}

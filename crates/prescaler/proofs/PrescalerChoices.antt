@@ -6,6 +6,7 @@
 --     counted_by_choices    eight counters and one mask are the step of a bank that runs, for `counted_down`
 --     scaled_by_digits      eight numbers make the mask of its scaled pulses, for `scaled_of`
 -- Assumes nothing.
+use Rattle.std.specs.Prelude.{if◌then◌else◌}
 use Prim.Native.Nat.{ℕ, zero, suc, ◌+◌, ◌*◌, ◌/◌, ◌%◌, ◌^◌, ◌<◌, ◌≤◌}
 use mathlib.Core.Path.{◌≡◌, refl, sym, ap, ◌∙◌}
 use mathlib.Core.Bool.{Bool, true, false, not, ◌&&◌, ◌||◌}
@@ -13,7 +14,7 @@ use mathlib.Core.List.{List}
 use native.Mathlib.Omega.{arith}
 use lib.Dec.{eqb, ltb, lit≤}
 use borrow.Author.Tests.{ltb-true, ltb-false, lt-ltb, le-leb, lt-leb}
-use Rattle.bits.specs.Notation.{if◌then◌else◌, ◌▷◌}
+use Rattle.bits.specs.Notation.{◌▷◌}
 use Rattle.bits.specs.Bits.{bit_at, one_if_of, mask_of, tabulate, clear_of}
 use Rattle.bits.proofs.BitsLaws.{zero_at, low_at, mask_same, mask_none, mask_of_bits, mask_wider, clear_mask}
 use Rattle.bits.proofs.BitsLaws.{tabulate_same}

@@ -70,9 +70,9 @@ module _ (input factor : ℕ) (b : Prescalers) where
         rw is_prescaled
         (record { counter = refl; factor = set_reads_written input factor i b.factors place h eight.factors })
 
-    pub with-factor-has-pass-count
+    pub with_factor_has_pass_count
         : PassCount 0 0 (counter_at (with_factor_of true input factor b) i) (factor_at (with_factor_of true input factor b) i)
-    with-factor-has-pass-count =
+    with_factor_has_pass_count =
         rw (with_factor_loads.counter, with_factor_loads.factor) (loaded_has_pass_count factor)
 
   -- the other inputs are untouched, and all of them where the input has no prescaler

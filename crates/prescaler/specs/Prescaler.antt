@@ -8,8 +8,8 @@
 -- Bit i and place i are input i + 1.
 -- Own rules of 01 used here: none. Decisions: T7, R7, R8. Left out: which pulses are counted, in registers.
 -- Assumes nothing.
-use Rattle.std.specs.Prelude.{ℕ, suc, ◌+◌, ◌-◌, ◌*◌, ◌≤◌, ◌≡◌, Bool, true, false, not, ◌&&◌, ◌||◌, List, eqb, leb, length, get_or, set, replicate}
-use Rattle.bits.specs.Notation.{if◌then◌else◌, ◌▷◌}
+use Rattle.std.specs.Prelude.{ℕ, suc, ◌+◌, ◌-◌, ◌*◌, ◌≤◌, ◌≡◌, Bool, true, false, not, ◌&&◌, ◌||◌, List, eqb, leb, length, get_or, set, replicate, if◌then◌else◌}
+use Rattle.bits.specs.Notation.{◌▷◌}
 use Rattle.bits.specs.Bits.{bit_at, mask_of, tabulate, every}
 use Rattle.registers.specs.Control.{inputs}
 use Rattle.registers.specs.Registers.{is_valid_factor}

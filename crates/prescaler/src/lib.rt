@@ -2,8 +2,7 @@
 // The bank goes in by value and comes back. Every contract is an equality with a definition of specs/.
 #![tactic(auto)]
 
-ghost use Rattle.std.specs.Prelude.{◌≡◌, true, ◌≤◌, eqb};
-ghost use Rattle.bits.specs.Notation.{if◌then◌else◌};
+ghost use Rattle.std.specs.Prelude.{◌≡◌, true, ◌≤◌, eqb, if◌then◌else◌};
 ghost use Rattle.prescaler.specs.Prescaler.{fresh_of, with_factor_of, factor_of, reloaded_of};
 ghost use Rattle.prescaler.specs.Prescaler.{fate_of, counter_after, scaled_of, step_of};
 ghost use Rattle.prescaler.specs.Prescaler.{all_fit_of, has_counters_within_of, has_valid_factors_of};

@@ -4,8 +4,7 @@
 --     sides_part                  what the four branches show, or finished, a space before each
 -- Own rules of 01 used here: none. Decisions: none. Left out: nothing.
 -- Assumes nothing.
-use Rattle.std.specs.Prelude.{ℕ, Bool, List, [], ◌∷◌, ◌++◌}
-use Rattle.bits.specs.Notation.{if◌then◌else◌}
+use Rattle.std.specs.Prelude.{ℕ, Bool, List, [], ◌∷◌, ◌++◌, if◌then◌else◌}
 use Rattle.branch.specs.declared.Slot.{Slot}
 use Rattle.branches.specs.declared.Side.{Side}
 use Rattle.trigger.specs.declared.latch.Masks.{Masks}

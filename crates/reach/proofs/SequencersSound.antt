@@ -4,9 +4,9 @@
 --     tick_keeps_sequencers   a tick of the core
 --     idle_is_sound           RESET and the fresh core
 -- Assumes nothing.
+use Rattle.std.specs.Prelude.{if◌then◌else◌}
 use Rattle.std.proofs.Common.{◌≡◌, ℕ, ◌^◌, ◌<◌, Bool, true, false, not, ◌&&◌, ◌||◌, leb, List, sym, refl, ap, ◌∙◌, lit<, le-leb, leb-true}
 use mathlib.Core.Bool.{false≢true}
-use Rattle.bits.specs.Notation.{if◌then◌else◌}
 use Rattle.bits.specs.Bits.{all_true}
 use Rattle.bits.proofs.TestLaws.{and_left, and_right, by_cond, all_true_at, implied, implies}
 use Rattle.registers.specs.Csr as csr

@@ -4,9 +4,9 @@
 --     tick_keeps_type        arrays of eight, an interval of 16 bits
 --     tick_keeps_unspoiled   a tick that is carried out
 -- Assumes nothing.
+use Rattle.std.specs.Prelude.{if◌then◌else◌}
 use Rattle.std.proofs.Common.{◌≡◌, ℕ, ◌<◌, Bool, true, false, not, ◌&&◌, ◌||◌, List, length, sym, refl, ap, ◌∙◌, ap₂, true≢false, arith}
 use mathlib.Core.Bool.{false≢true}
-use Rattle.bits.specs.Notation.{if◌then◌else◌}
 use Rattle.bits.proofs.TestLaws.{and_left, by_cond, or_true}
 use Rattle.registers.specs.Csr as csr
 use Rattle.sync.proofs.SyncLaws.{user_tag_exactly, user_waits_exactly}

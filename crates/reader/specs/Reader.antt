@@ -7,8 +7,7 @@
 --     command_of       what a line asks; Other for a line of other form
 -- Own rules of 01 used here: none. Decisions: K1. Left out: nothing.
 -- Assumes nothing.
-use Rattle.std.specs.Prelude.{ℕ, zero, suc, ◌+◌, ◌*◌, Bool, ◌&&◌, List, [], ◌∷◌, eqb, length, get_or, take}
-use Rattle.bits.specs.Notation.{if◌then◌else◌}
+use Rattle.std.specs.Prelude.{ℕ, zero, suc, ◌+◌, ◌*◌, Bool, ◌&&◌, List, [], ◌∷◌, eqb, length, get_or, take, if◌then◌else◌}
 use Rattle.bits.specs.Bits.{every}
 use Rattle.text.specs.Text.{tab, newline, is_digit_of, digit_of}
 use Rattle.reader.specs.declared.Command.{Command}

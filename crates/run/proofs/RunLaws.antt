@@ -6,6 +6,7 @@
 --     set_is_overlaid    the value's bits set in the old word without them, for `overlaid`
 --     run_is_of_ten      the ten are runs, and there is no other
 -- Assumes nothing.
+use Rattle.std.specs.Prelude.{if◌then◌else◌}
 use Prim.Native.Nat.{ℕ, ◌+◌, ◌-◌, ◌^◌, ◌<◌, ◌≤◌}
 use mathlib.Core.Path.{◌≡◌, refl, sym, ap, ap₂, ◌∙◌}
 use mathlib.Core.Bool.{Bool, true, false, not, ◌&&◌, ◌||◌, cond}
@@ -13,7 +14,6 @@ use native.Mathlib.Omega.{arith}
 use lib.Bits.{bit_and, bit_or}
 use lib.Dec.{eqb, ltb, leb}
 use borrow.Author.Tests.{eqb-true, ne_eqb, leb-true, leb-false, le-leb, lt-leb, lt-ltb, le-ltb, ltb-true, ltb-false}
-use Rattle.bits.specs.Notation.{if◌then◌else◌}
 use Rattle.bits.specs.Bits.{bit_at, mask_of, every, set_of, clear_of}
 use Rattle.bits.proofs.TestLaws.{and_left, and_right, and_fails, every_at}
 use Rattle.bits.proofs.BitsLaws.{mask_at, mask_at_below, set_at, clear_at, and_at_lem, words_equal_by_bits}

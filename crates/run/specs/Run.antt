@@ -7,8 +7,7 @@
 --     ten_runs          all of them; is_in: one of a list
 -- Own rules of 02 used here: none. Decisions: R7. Left out: nothing.
 -- Assumes nothing.
-use Rattle.std.specs.Prelude.{ℕ, ◌+◌, ◌-◌, ◌/◌, Bool, false, ◌&&◌, ◌||◌, List, [], ◌∷◌, eqb, ltb, leb}
-use Rattle.bits.specs.Notation.{if◌then◌else◌}
+use Rattle.std.specs.Prelude.{ℕ, ◌+◌, ◌-◌, ◌/◌, Bool, false, ◌&&◌, ◌||◌, List, [], ◌∷◌, eqb, ltb, leb, if◌then◌else◌}
 use Rattle.bits.specs.Bits.{bit_at, mask_of}
 use Rattle.run.specs.declared.Run.{Run}
 

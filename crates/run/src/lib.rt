@@ -2,8 +2,7 @@
 // it makes of two. The definitions are in specs/Run.antt.
 #![tactic(auto)]
 
-ghost use Rattle.std.specs.Prelude.{◌≡◌};
-ghost use Rattle.bits.specs.Notation.{if◌then◌else◌};
+ghost use Rattle.std.specs.Prelude.{◌≡◌, if◌then◌else◌};
 ghost use Rattle.run.specs.Run.{whole, is_whole_of, is_run_of, holds_byte, has_byte3, byte_mask_of, overlaid_of, cut_of};
 
 // A first byte and a count; BYTE(0) is the highest of a word, BYTE(3) the lowest. Any two numbers may be given.

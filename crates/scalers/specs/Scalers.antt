@@ -6,8 +6,8 @@
 -- Own rules of 01 used here: level fails count where a wait acts on them, late ones too. Decisions: C1, C2, R7.
 -- Left out: nothing.
 -- Assumes nothing.
-use Rattle.std.specs.Prelude.{ℕ, ◌+◌, ◌-◌, ◌%◌, ◌^◌, Bool, not, ◌&&◌, ◌||◌, ◌==◌, nat_le, nat_lt}
-use Rattle.bits.specs.Notation.{if◌then◌else◌, ◌▷◌}
+use Rattle.std.specs.Prelude.{ℕ, ◌+◌, ◌-◌, ◌%◌, ◌^◌, Bool, not, ◌&&◌, ◌||◌, ◌==◌, nat_le, nat_lt, if◌then◌else◌}
+use Rattle.bits.specs.Notation.{◌▷◌}
 use Rattle.bits.specs.Bits.{bit_at, one_if_of}
 use Rattle.scalers.specs.ScalersFields.{with_scaler0, with_scaler1, with_latch0, with_latch1}
 use Rattle.scalers.specs.declared.Scalers.{Scalers}

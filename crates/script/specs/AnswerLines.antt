@@ -5,8 +5,7 @@
 --     newlines       how many newlines there are
 -- Own rules of 01 used here: none. Decisions: none. Left out: nothing.
 -- Assumes nothing.
-use Rattle.std.specs.Prelude.{ℕ, ◌+◌, ◌≡◌, Bool, true, false, ◌||◌, List, [], ◌∷◌, ◌++◌, eqb}
-use Rattle.bits.specs.Notation.{if◌then◌else◌}
+use Rattle.std.specs.Prelude.{ℕ, ◌+◌, ◌≡◌, Bool, true, false, ◌||◌, List, [], ◌∷◌, ◌++◌, eqb, if◌then◌else◌}
 use Rattle.bits.specs.Bytes.{all_of}
 use Rattle.text.specs.Text.{newline, is_decimal, is_capital}
 use Rattle.reader.specs.Reader.{command_of}

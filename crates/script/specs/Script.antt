@@ -7,8 +7,7 @@
 --     answers_of       all that a script prints
 -- Own rules of 01 used here: none. Decisions: K2, K3, K5. Left out: standard input and output, in console.
 -- Assumes nothing.
-use Rattle.std.specs.Prelude.{ℕ, Bool, List, [], ◌∷◌, ◌++◌, leb, length}
-use Rattle.bits.specs.Notation.{if◌then◌else◌}
+use Rattle.std.specs.Prelude.{ℕ, Bool, List, [], ◌∷◌, ◌++◌, leb, length, if◌then◌else◌}
 use Rattle.bits.specs.Bytes.{is_same_of}
 use Rattle.trigger.specs.Lines.{inputs_of}
 use Rattle.declines.specs.Runs.{plain_write, plain_read, write_memory, read_memory, tick}

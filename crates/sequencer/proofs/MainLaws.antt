@@ -7,6 +7,7 @@
 --     fail_beats_pass2, fail_beats_pass3, word_is_six_bit   single rules
 --     step_loads_six_bits        the word that a step loads has six bits
 -- Assumes nothing.
+use Rattle.std.specs.Prelude.{if◌then◌else◌}
 use Prim.Native.Nat.{ℕ, ◌+◌, ◌*◌, ◌%◌, ◌<◌, ◌≤◌}
 use mathlib.Core.Path.{◌≡◌, refl, sym, ap, ◌∙◌}
 use mathlib.Core.Bool.{Bool, true, false, not, ◌&&◌, ◌||◌, false≢true, true≢false}
@@ -16,7 +17,7 @@ use native.Mathlib.Nat.{mod-lt}
 use lib.Dec.{ltb, leb, lit<}
 use lib.ListN.{get_or}
 use borrow.Author.Tests.{not-true, le-leb}
-use Rattle.bits.specs.Notation.{if◌then◌else◌, ◌▷◌}
+use Rattle.bits.specs.Notation.{◌▷◌}
 use Rattle.bits.specs.Bits.{one_if_of, all_true}
 use Rattle.bits.specs.Bytes.{all_of}
 use Rattle.bits.proofs.TestLaws.{and_both, implied, all_true_at, or_true, or_rest}

@@ -2,10 +2,10 @@
 --     MovesIn           a row for each state and move, with the test on the branches that the move waits for
 --     move_is_one_of    the move of every tick is in the table
 -- Assumes nothing.
+use Rattle.std.specs.Prelude.{if◌then◌else◌}
 use mathlib.Core.Path.{◌≡◌, refl}
 use mathlib.Core.Bool.{Bool, true, false}
 use lib.Dec.{eqb, ltb}
-use Rattle.bits.specs.Notation.{if◌then◌else◌}
 use Rattle.sequencer.specs.MainSequencer.{level2, level3, Move, stays, waits_in_delay, ends_delay}
 use Rattle.sequencer.specs.MainSequencer.{passes2_to_delay, passes2_to_wait3, passes3, loads, leaves_space}
 use Rattle.sequencer.specs.MainSequencer.{ends_sync_hold, counts_clear, ends_clear, fails_late, fails_and_clears}

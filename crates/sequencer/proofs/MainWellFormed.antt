@@ -2,6 +2,7 @@
 --     step-, aged-, accepted_keeps_well_formed, idle_is_well_formed
 --     well_formed_from_test, well_formed_to_test   the test of the code and the facts say the same
 -- Assumes nothing.
+use Rattle.std.specs.Prelude.{if◌then◌else◌}
 use Prim.Native.Nat.{ℕ, ◌+◌, ◌≤◌}
 use mathlib.Core.Path.{◌≡◌, refl, sym, ◌∙◌}
 use mathlib.Core.Bool.{Bool, true, false, not, ◌&&◌, ◌||◌, false≢true, true≢false}
@@ -9,7 +10,7 @@ use mathlib.Core.List.{List, [], ◌∷◌}
 use native.Mathlib.Omega.{arith}
 use lib.Dec.{eqb, ltb, leb, lit<, lit≤}
 use borrow.Author.Tests.{ltb-true, leb-true, le-leb}
-use Rattle.bits.specs.Notation.{if◌then◌else◌, ◌▷◌}
+use Rattle.bits.specs.Notation.{◌▷◌}
 use Rattle.bits.specs.Bits.{bit_at}
 use Rattle.bits.proofs.TestLaws.{and_right, implied, implies, all_true_at}
 use Rattle.sequencer.specs.MemoryWord.{class_in_of, code_in, accept_in, is_ok_word}

@@ -2,9 +2,10 @@
 --     step_by_state        for `Core::cycle_step`, which goes by the state
 --     fails2_by_choice, fails3_by_choice   for the fails of Wait 2 and Wait 3, which share their code
 -- Assumes nothing.
+use Rattle.std.specs.Prelude.{if◌then◌else◌}
 use mathlib.Core.Path.{◌≡◌, refl, sym, ap}
 use mathlib.Core.Bool.{Bool, true, false, false≢true}
-use Rattle.bits.specs.Notation.{if◌then◌else◌, ◌▷◌}
+use Rattle.bits.specs.Notation.{◌▷◌}
 use Rattle.sequencer.specs.MainFields.{with_failed2, with_failed3}
 use Rattle.sequencer.specs.MainSequencer.{move_in, move_in_wait2, move_in_wait3, step_by, step_of}
 use Rattle.sequencer.specs.MainSequencer.{late_step, cleared_step}

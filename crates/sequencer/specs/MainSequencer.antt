@@ -8,8 +8,8 @@
 -- Own rules of 01 used here: fail beats pass; a level fail is reported where a wait acts on it. Decisions: M1–M7, A5, F4.
 -- Left out: the word's way to the branches, in branches; the CSR bits that a step sets and clears, in trigger.
 -- Assumes nothing.
-use Rattle.std.specs.Prelude.{ℕ, ◌+◌, ◌-◌, ◌*◌, ◌%◌, ◌^◌, ◌≤◌, ◌≡◌, Bool, true, false, not, ◌&&◌, ◌||◌, [], ◌∷◌, eqb, ltb, leb}
-use Rattle.bits.specs.Notation.{if◌then◌else◌, ◌▷◌}
+use Rattle.std.specs.Prelude.{ℕ, ◌+◌, ◌-◌, ◌*◌, ◌%◌, ◌^◌, ◌≤◌, ◌≡◌, Bool, true, false, not, ◌&&◌, ◌||◌, [], ◌∷◌, eqb, ltb, leb, if◌then◌else◌}
+use Rattle.bits.specs.Notation.{◌▷◌}
 use Rattle.bits.specs.Bits.{bit_at, one_if_of, set_of, all_true}
 use Rattle.sequencer.specs.MemoryWord.{class_in_of, code_in, accept_in}
 use Rattle.sequencer.specs.MainFields.{with_age, with_state, with_clear, with_class, with_code, with_accept}

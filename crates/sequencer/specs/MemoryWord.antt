@@ -5,8 +5,7 @@
 --     code_in, accept_in   its code and its accept pattern
 -- Own rules of 01 used here: the lowest class bit decides; none means not OK. Decisions: none. Left out: nothing.
 -- Assumes nothing.
-use Rattle.std.specs.Prelude.{ℕ, ◌/◌, ◌%◌, Bool, ◌&&◌, ◌||◌}
-use Rattle.bits.specs.Notation.{if◌then◌else◌}
+use Rattle.std.specs.Prelude.{ℕ, ◌/◌, ◌%◌, Bool, ◌&&◌, ◌||◌, if◌then◌else◌}
 use Rattle.bits.specs.Bits.{bit_at}
 
 -- [Memory.2] [Memory.3] bits 1–3, the lowest set one

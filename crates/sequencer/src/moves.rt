@@ -1,7 +1,6 @@
 // The moves of main, a function for each state (document 01, "The tick", Main). The definitions are in
 // specs/MainSequencer.antt: a move for each sentence, and what each move changes.
-ghost use Rattle.std.specs.Prelude.{◌≡◌};
-ghost use Rattle.bits.specs.Notation.{if◌then◌else◌};
+ghost use Rattle.std.specs.Prelude.{◌≡◌, if◌then◌else◌};
 ghost use Rattle.bits.specs.Bits.{set_of};
 ghost use Rattle.sequencer.specs.MainFields.{with_state, with_raised};
 ghost use Rattle.sequencer.specs.MainSequencer.{after_load, word_of, move_in, late_step, cleared_step, fail_step, step_by};

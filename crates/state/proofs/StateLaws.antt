@@ -1,5 +1,5 @@
 -- Laws of the STATE register.
---     state-of-bytes          the code's four bytes are the word
+--     state_of_bytes          the code's four bytes are the word
 --     state_shows_its_bits    every bit of the word is its test
 --     fresh_state_reads       the word of a fresh record
 --     reset_keeps_lem             RESET keeps what is kept of the latest tick
@@ -31,10 +31,10 @@ module _ (s : Supervisor) where
       ∙ ap (λ (m : ℕ). mask_of 8 (from p) + 256 * m)
       (mask_same n (λ i. from p (8 + i)) (from (p + 8)) (λ i h. ap (state_bit_at s) (omega arith)))
 
-  pub state-of-bytes :
+  pub state_of_bytes :
       state_byte_of 0 s + 256 * state_byte_of 1 s + 65536 * state_byte_of 2 s + 16777216 * state_byte_of 3 s ≡ state_of s
   unfolding state_of state_byte_of
-  state-of-bytes =
+  state_of_bytes =
       let whole = mask_same 32 (from 0) (state_bit_at s) (λ i h. ap (state_bit_at s) (omega arith)) in
       omega (arith, split 0 24, split 8 16, split 16 8, whole)
 

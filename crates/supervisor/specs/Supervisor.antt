@@ -10,8 +10,7 @@
 -- The core and the branches meet here alone: two facts one way, the word to load the other.
 -- Own rules of 01 used here: none. Decisions: T1, T9, A4. Left out: the declines, in declines.
 -- Assumes nothing.
-use Rattle.std.specs.Prelude.{◌≡◌, ℕ, ◌+◌, ◌<◌, Bool, not, ◌&&◌, ◌||◌, List, length, slice_index_or}
-use Rattle.bits.specs.Notation.{if◌then◌else◌}
+use Rattle.std.specs.Prelude.{◌≡◌, ℕ, ◌+◌, ◌<◌, Bool, not, ◌&&◌, ◌||◌, List, length, slice_index_or, if◌then◌else◌}
 use Rattle.bits.specs.Bits.{bit_at}
 use Rattle.registers.specs.Csr as csr
 use Rattle.registers.specs.Control.{inputs, counts}

@@ -5,12 +5,13 @@
 --     user_step_by_choices      what the code computes is the move's step
 --     user_tag_exactly, user_ends_exactly, user_waits_exactly   when a tag is loaded, a wait ends, one waits on
 -- Assumes nothing.
+use Rattle.std.specs.Prelude.{if◌then◌else◌}
 use Prim.Native.Nat.{ℕ, ◌+◌, ◌<◌, ◌≤◌}
 use mathlib.Core.Path.{◌≡◌, refl, sym, ap}
 use mathlib.Core.Bool.{Bool, true, false, not, ◌&&◌, ◌||◌, false≢true}
 use native.Mathlib.Omega.{arith}
 use borrow.Author.Tests.{leb-false, le-leb}
-use Rattle.bits.specs.Notation.{if◌then◌else◌, ◌▷◌}
+use Rattle.bits.specs.Notation.{◌▷◌}
 use Rattle.sync.specs.SyncCounter.{count_limit, with_count, is_counting, reaches_interval, is_due, after_load_of}
 use Rattle.sync.specs.UserSync.{move_of, step_by, step_of}
 use Rattle.sync.specs.declared.counter.SyncCounter.{SyncCounter}

@@ -6,8 +6,8 @@
 -- Own rules of 01 used here: none. Decisions: S1.
 -- Left out: nothing.
 -- Assumes nothing.
-use Rattle.std.specs.Prelude.{ℕ, ◌+◌, Bool, not, ◌&&◌, ltb, leb}
-use Rattle.bits.specs.Notation.{if◌then◌else◌, ◌▷◌}
+use Rattle.std.specs.Prelude.{ℕ, ◌+◌, Bool, not, ◌&&◌, ltb, leb, if◌then◌else◌}
+use Rattle.bits.specs.Notation.{◌▷◌}
 use Rattle.sync.specs.declared.counter.SyncCounter.{SyncCounter}
 
 -- [Spoiled.1h] the largest count of a record that is not spoiled

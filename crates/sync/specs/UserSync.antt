@@ -5,8 +5,7 @@
 -- Own rules of 01 used here: none. Decisions: U1.
 -- Left out: the CSR bits that it sets and clears, in trigger.
 -- Assumes nothing.
-use Rattle.std.specs.Prelude.{ℕ, Bool, true, false, ◌&&◌}
-use Rattle.bits.specs.Notation.{if◌then◌else◌}
+use Rattle.std.specs.Prelude.{ℕ, Bool, true, false, ◌&&◌, if◌then◌else◌}
 use Rattle.sync.specs.declared.user.UserSync.{UserSync}
 use Rattle.sync.specs.declared.user.UserStep.{UserStep}
 

@@ -5,6 +5,7 @@
 --     gathered_all   .. of all inputs
 --     gathered_is_table   of all inputs it is the table's word
 -- Assumes nothing.
+use Rattle.std.specs.Prelude.{if◌then◌else◌}
 use Prim.Native.Nat.{ℕ, zero, suc, ◌+◌, ◌-◌, ◌<◌, ◌≤◌, ◌^◌}
 use mathlib.Core.Path.{◌≡◌, refl, sym, ap, ap₂, ◌∙◌}
 use mathlib.Core.Bool.{Bool, true, false, ◌&&◌, ◌||◌, cond}
@@ -15,7 +16,6 @@ use lib.Bits.{bit_and}
 use lib.Dec.{eqb, ltb, leb}
 use lib.ListN.{get_or}
 use borrow.Author.Tests.{lt-ltb, le-leb, lt-leb, eqb-true, ltb-true, ltb-false}
-use Rattle.bits.specs.Notation.{if◌then◌else◌}
 use Rattle.bits.specs.Bits.{bit_at, mask_of}
 use Rattle.bits.proofs.TestLaws.{and_true, and_fails}
 use Rattle.bits.proofs.BitsLaws.{or_at_lem, and_at_lem, zero_at, run_at, mask_same, mask_of_bits}

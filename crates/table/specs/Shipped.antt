@@ -6,8 +6,7 @@
 --     ShippedMeetsRule that each word is the rule's and reads so: one test over all entries
 -- Own rules of 02 used here: none. Decisions: F37. Left out: nothing.
 -- Assumes nothing.
-use Rattle.std.specs.Prelude.{ℕ, suc, ◌+◌, ◌-◌, ◌*◌, ◌%◌, ◌^◌, ◌≡◌, Bool, true, ◌&&◌, List, [], ◌∷◌, eqb, leb, get_or}
-use Rattle.bits.specs.Notation.{if◌then◌else◌}
+use Rattle.std.specs.Prelude.{ℕ, suc, ◌+◌, ◌-◌, ◌*◌, ◌%◌, ◌^◌, ◌≡◌, Bool, true, ◌&&◌, List, [], ◌∷◌, eqb, leb, get_or, if◌then◌else◌}
 use Rattle.bits.specs.Bits.{every}
 use Rattle.registers.specs.Control.{inputs}
 use Rattle.sequencer.specs.MemoryWord.{is_ok_word, class_in_of, code_in, accept_in}

@@ -7,9 +7,8 @@
 --     ShippedPlaces  the document's examples
 -- Own rules of 02 used here: none. Decisions: H1, H2. Left out: who may fill, and when it is declined, in declines.
 -- Assumes nothing.
-use Rattle.std.specs.Prelude.{ℕ, zero, suc, ◌+◌, Bool, false, ◌&&◌, ◌||◌, ◌≡◌, List, [], ◌∷◌, map, eqb, ltb, get_or}
+use Rattle.std.specs.Prelude.{ℕ, zero, suc, ◌+◌, Bool, false, ◌&&◌, ◌||◌, ◌≡◌, List, [], ◌∷◌, map, eqb, ltb, get_or, if◌then◌else◌}
 use Rattle.std.specs.Int.Bits.{bit_and, bit_or}
-use Rattle.bits.specs.Notation.{if◌then◌else◌}
 use Rattle.bits.specs.Bits.{bit_at, one_if_of, mask_of, tabulate, every}
 use Rattle.registers.specs.Control.{inputs}
 use Rattle.table.specs.Shipped.{shipped_words}

@@ -8,6 +8,7 @@
 --     held_stops_counted      which ones a held tick stops
 --     outside_is_blocked_lem, acks_are_blocked    the inputs in force in test mode are the same whatever comes from outside
 -- Assumes nothing.
+use Rattle.std.specs.Prelude.{if◌then◌else◌}
 use Prim.Native.Nat.{ℕ, zero, suc, ◌+◌, ◌*◌, ◌/◌, ◌<◌}
 use mathlib.Core.Path.{◌≡◌, refl, ap, ◌∙◌}
 use mathlib.Core.Bool.{Bool, true, false, not, ◌&&◌, ◌||◌, cond}
@@ -15,7 +16,6 @@ use mathlib.Core.List.{List, [], ◌∷◌}
 use native.Mathlib.Omega.{arith}
 use lib.Dec.{eqb, leb, ltb, lit<}
 use lib.ListN.{get_or}
-use Rattle.bits.specs.Notation.{if◌then◌else◌}
 use borrow.Author.Tests.{eqb-true, eqb-false, leb-true, le-ltb}
 use Rattle.bits.specs.Bits.{bit_at, bits_from, one_if_of, mask_of, clear_of}
 use Rattle.bits.proofs.TestLaws.{and_true}

@@ -5,8 +5,7 @@
 --     held_masks_of      the masks of a held tick
 -- Own rules of 02 used here: none. Decisions: R9, T9. Left out: the rest of a held tick, in supervisor.
 -- Assumes nothing.
-use Rattle.std.specs.Prelude.{ℕ, Bool, not, ◌&&◌}
-use Rattle.bits.specs.Notation.{if◌then◌else◌}
+use Rattle.std.specs.Prelude.{ℕ, Bool, not, ◌&&◌, if◌then◌else◌}
 use Rattle.registers.specs.Csr.{holds_clock, is_test_mode}
 use Rattle.registers.specs.Control.{counted_of, enabled_of}
 use Rattle.registers.specs.declared.csr.Csr.{Csr}

@@ -6,8 +6,7 @@
 -- The bits of all writes since the latest tick that ran wait together; that tick drops them (core).
 -- Own rules of 02 used here: none. Decisions: R9. Left out: which bits a write may have, in registers.
 -- Assumes nothing.
-use Rattle.std.specs.Prelude.{ℕ, ◌+◌, ◌/◌, Bool, false, List, [], ◌∷◌, get_or}
-use Rattle.bits.specs.Notation.{if◌then◌else◌}
+use Rattle.std.specs.Prelude.{ℕ, ◌+◌, ◌/◌, Bool, false, List, [], ◌∷◌, get_or, if◌then◌else◌}
 use Rattle.bits.specs.Bits.{bit_at, bits_from, mask_of, set_of, clear_of}
 use Rattle.trigger.specs.declared.lines.Lines.{Lines}
 use Rattle.testing.specs.declared.TestWord.{TestWord}

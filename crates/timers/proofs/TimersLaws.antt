@@ -3,6 +3,7 @@
 --     Other, other_timer    of two timers that differ: what is stored of one stands when the other is written, and the two
 --                           writes give the same in both orders
 -- Assumes nothing.
+use Rattle.std.specs.Prelude.{if◌then◌else◌}
 use Prim.Native.Nat.{ℕ, zero, suc, ◌-◌, ◌%◌, ◌^◌, ◌≤◌}
 use mathlib.Core.Path.{◌≡◌, refl, sym, ap, ◌∙◌}
 use mathlib.Core.List.{List, [], ◌∷◌}
@@ -11,7 +12,6 @@ use native.Mathlib.Omega.{arith}
 use lib.Dec.{leb}
 use lib.ListN.{get_or, set}
 use lib.Seq.{get_or-set_other, set_comm}
-use Rattle.bits.specs.Notation.{if◌then◌else◌}
 use Rattle.timers.specs.Timers.{written_of, stored_of}
 use Rattle.timers.specs.declared.Timers.{Timers}
 

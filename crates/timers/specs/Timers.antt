@@ -8,8 +8,7 @@
 --     clear_count_of     the count that Clear enters with
 -- Own rules of 01 used here: none. Decisions: none. Left out: nothing.
 -- Assumes nothing.
-use Rattle.std.specs.Prelude.{ℕ, ◌*◌, ◌%◌, ◌^◌, Bool, not, ◌&&◌, eqb, ltb, leb}
-use Rattle.bits.specs.Notation.{if◌then◌else◌}
+use Rattle.std.specs.Prelude.{ℕ, ◌*◌, ◌%◌, ◌^◌, Bool, not, ◌&&◌, eqb, ltb, leb, if◌then◌else◌}
 use Rattle.timers.specs.declared.Count40.{Count40}
 use Rattle.timers.specs.declared.Count20.{Count20}
 use Rattle.timers.specs.declared.Timers.{Timers}

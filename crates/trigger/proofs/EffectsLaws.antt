@@ -3,10 +3,10 @@
 --     nothing_ended               where neither Sync hold nor a user sync ends, no end clears a bit
 --     sync_after_by_count         the sync counter after a tick is the one before with another count
 -- Assumes nothing.
+use Rattle.std.specs.Prelude.{if◌then◌else◌}
 use Prim.Native.Nat.{ℕ, ◌+◌, ◌<◌, ◌≤◌}
 use mathlib.Core.Path.{◌≡◌, refl, sym, ◌∙◌}
 use mathlib.Core.Bool.{Bool, true, false, not, ◌&&◌, ◌||◌, true≢false}
-use Rattle.bits.specs.Notation.{if◌then◌else◌}
 use Rattle.registers.specs.Csr as csr
 use Rattle.registers.specs.Csr.{sync_hold_ended_if_of, user_sync_ended_if_of}
 use Rattle.registers.specs.declared.csr.Csr.{Csr}

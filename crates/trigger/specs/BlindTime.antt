@@ -6,8 +6,7 @@
 --     LosesAll       what becomes of the pulses that pass while it lasts
 -- Own rules of 02 used here: none. Decisions: T8. Left out: nothing.
 -- Assumes nothing.
-use Rattle.std.specs.Prelude.{ℕ, ◌-◌, ◌≡◌, Bool, eqb, leb}
-use Rattle.bits.specs.Notation.{if◌then◌else◌}
+use Rattle.std.specs.Prelude.{ℕ, ◌-◌, ◌≡◌, Bool, eqb, leb, if◌then◌else◌}
 use Rattle.scalers.specs.Scalers.{is_some}
 use Rattle.trigger.specs.declared.blind.BlindTime.{BlindTime}
 use Rattle.trigger.specs.declared.latch.Masks.{Masks}

@@ -5,8 +5,8 @@
 --     outcome_of, signals_of      what is reported, and what the scalers count
 -- Own rules of 01 used here: none. Decisions: T3, T6. Left out: nothing.
 -- Assumes nothing.
-use Rattle.std.specs.Prelude.{ℕ, ◌+◌, ◌*◌, Bool, ◌||◌}
-use Rattle.bits.specs.Notation.{if◌then◌else◌, ◌▷◌}
+use Rattle.std.specs.Prelude.{ℕ, ◌+◌, ◌*◌, Bool, ◌||◌, if◌then◌else◌}
+use Rattle.bits.specs.Notation.{◌▷◌}
 use Rattle.bits.specs.Bits.{one_if_of}
 use Rattle.registers.specs.Csr as csr
 use Rattle.registers.specs.declared.csr.Csr.{Csr}

@@ -5,8 +5,7 @@
 --     masks_of        the five masks
 -- Own rules of 01 used here: none. Decisions: T2. Left out: nothing.
 -- Assumes nothing.
-use Rattle.std.specs.Prelude.{ℕ, Bool, not, ◌&&◌, List, get_or}
-use Rattle.bits.specs.Notation.{if◌then◌else◌}
+use Rattle.std.specs.Prelude.{ℕ, Bool, not, ◌&&◌, List, get_or, if◌then◌else◌}
 use Rattle.prescaler.specs.declared.Prescaled.{Prescaled}
 use Rattle.trigger.specs.declared.latch.Latch.{Latch}
 use Rattle.trigger.specs.declared.latch.Masks.{Masks}

@@ -1,6 +1,6 @@
--- `state::state` meets its contract: four bytes, each above the one before, are the word (`state-of-bytes`). Assumes
+-- `state::state` meets its contract: four bytes, each above the one before, are the word (`state_of_bytes`). Assumes
 -- nothing.
-use Rattle.state.proofs.StateLaws.{state-of-bytes}
+use Rattle.state.proofs.StateLaws.{state_of_bytes}
 use Rattle.state.proofs.state.Goals as goal
 
 pub returns : goal.returns
@@ -10,4 +10,4 @@ returns c =
       c.buffers.ensures.value,
       c.cycle.ensures.value,
       c.levels.ensures.value,
-    ) (state-of-bytes c.args.s)
+    ) (state_of_bytes c.args.s)
