@@ -29,11 +29,10 @@ pub loop-i-preserved : goal.loop-i-preserved
 unfolding number_at
 loop-i-preserved c =
     let i = c.loop-i.i in
-    let start = c in
     let digit = c.digit.ensures.value ∙ ap digit_of c.byte.ensures in (
       omega arith,
       rw (add-one i)
           (ap (λ (n : ℕ). 16 * n + c.digit.result) c.loop-i.invariant.1
-          ∙ ap (λ (d : ℕ). 16 * number_at start.args.line.now start.args.at i + d) digit),
+          ∙ ap (λ (d : ℕ). 16 * number_at c.args.line.now c.args.at i + d) digit),
       rw (add-one i, pow-succ' 16 i) (omega arith),
     )

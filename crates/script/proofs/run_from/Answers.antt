@@ -35,15 +35,14 @@ line_within script at r more e =
 
 pub loop-at-init : goal.loop-at-init
 unfolding fresh_session
-loop-at-init c =
-    let start = c in (
-      start.requires.out_len,
-      ap length c.zero_memory-memory.ensures ∙ length-replicate {A = ℕ} memory_places 0,
-      start.requires.start_bound,
-      omega (arith, start.requires.script_len_bound),
-      λ j. answers_from (lines_of (drop start.args.start start.args.script.now))
-          (session (c.fresh-s.ensures j) (c.zero_memory-memory.ensures j)),
-    )
+loop-at-init c = (
+  c.requires.out_len,
+  ap length c.zero_memory-memory.ensures ∙ length-replicate {A = ℕ} memory_places 0,
+  c.requires.start_bound,
+  omega (arith, c.requires.script_len_bound),
+  λ j. answers_from (lines_of (drop c.args.start c.args.script.now))
+      (session (c.fresh-s.ensures j) (c.zero_memory-memory.ensures j)),
+)
 
 pub overflow_add-at : goal.overflow_add-at
 overflow_add-at c =
@@ -81,4 +80,6 @@ loop-at-preserved c =
 
 pub returns-clause-out_after : goal.returns-clause-out_after
 returns-clause-out_after c =
-    let l = c.loop-at in sym (append-nil (take l.printed l.out)) ∙ ap (λ (t : List ℕ). take l.printed l.out ++ t) (answers_none c.args.script.now l.at (session l.s l.memory) c.loop-at-test.false) ∙ l.invariant.4
+    let l = c.loop-at in
+    let none = answers_none c.args.script.now l.at (session l.s l.memory) c.loop-at-test.false in
+    sym (append-nil (take l.printed l.out)) ∙ ap (λ (t : List ℕ). take l.printed l.out ++ t) none ∙ l.invariant.4

@@ -11,17 +11,20 @@ returns-then-b-lt48-clause-value c = rw (lt-leb 48 c.args.b (omega arith), lt-le
 pub returns-then-b-le57-clause-value : goal.returns-then-b-le57-clause-value
 unfolding digit_of
 returns-then-b-le57-clause-value c =
-    let b = c.args.b in rw (le-leb 48 b (omega arith), le-leb b 57 (omega arith))
+    let b = c.args.b in
+    rw (le-leb 48 b (omega arith), le-leb b 57 (omega arith))
 
 pub returns-then-b-lt65-clause-value : goal.returns-then-b-lt65-clause-value
 unfolding digit_of
 returns-then-b-lt65-clause-value c =
-    let b = c.args.b in rw (le-leb 48 b (omega arith), lt-leb b 57 (omega arith), lt-leb 65 b (omega arith))
+    let b = c.args.b in
+    rw (le-leb 48 b (omega arith), lt-leb b 57 (omega arith), lt-leb 65 b (omega arith))
 
 pub returns-then-b-le70-clause-value : goal.returns-then-b-le70-clause-value
 unfolding digit_of
 returns-then-b-le70-clause-value c =
-    let b = c.args.b in rw (
+    let b = c.args.b in
+    rw (
       le-leb 48 b (omega arith),
       lt-leb b 57 (omega arith),
       le-leb 65 b (omega arith),
@@ -31,7 +34,8 @@ returns-then-b-le70-clause-value c =
 pub returns-clause-value : goal.returns-clause-value
 unfolding digit_of
 returns-clause-value c =
-    let b = c.args.b in rw (
+    let b = c.args.b in
+    rw (
       le-leb 48 b (omega arith),
       lt-leb b 57 (omega arith),
       le-leb 65 b (omega arith),

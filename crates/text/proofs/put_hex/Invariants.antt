@@ -10,7 +10,9 @@ use Rattle.text.proofs.put_hex.Given as goal
 
 abbrev pub invariant-loop-left : goal.invariant-loop-left
 invariant-loop-left l =
-    (l.left ≤ l.digits) × (length l.out ≡ length l.initial.out) × (write (hex l.left l.v) (page l.out l.place) ≡ write (hex l.digits l.v) (page l.initial.out l.at))
+    (l.left ≤ l.digits)
+    × (length l.out ≡ length l.initial.out)
+    × (write (hex l.left l.v) (page l.out l.place) ≡ write (hex l.digits l.v) (page l.initial.out l.at))
 
 abbrev pub decreases-loop-left : goal.decreases-loop-left
 decreases-loop-left l = l.left

@@ -5,7 +5,6 @@ use Rattle.branches.proofs.Readout.emptied.Goals as goal
 
 pub returns : goal.returns
 returns c =
-    let start = c in
-    let four = start.well_formed.0.1.1.0.1.0.1 in
-    let r = start.args.self in
+    let four = c.well_formed.0.1.1.0.1.0.1 in
+    let r = c.args.self in
     rw c.fresh-b.ensures (emptied_of_four r four)

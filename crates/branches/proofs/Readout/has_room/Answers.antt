@@ -12,9 +12,8 @@ use Rattle.branches.proofs.Readout.has_room.Goals as goal
 pub returns : goal.returns
 unfolding has_room_of
 returns c =
-    let start = c in
-    let four = start.well_formed.0.1.1.0.1.0.1 in
-    let a = start.args in
+    let four = c.well_formed.0.1.1.0.1.0.1 in
+    let a = c.args in
     let bs = a.self.branches in
     rw (
       c.depth-fourth.ensures,

@@ -12,7 +12,6 @@ use Rattle.branches.proofs.Readout.is_empty.Goals as goal
 pub returns : goal.returns
 unfolding is_empty_of
 returns c =
-    let start = c in
-    let four = start.well_formed.0.1.1.0.1.0.1 in
-    let bs = start.args.self.branches in
+    let four = c.well_formed.0.1.1.0.1.0.1 in
+    let bs = c.args.self.branches in
     every_of_four (length bs) (λ k. not (has_word (branch_at bs k))) four

@@ -12,9 +12,8 @@ use Rattle.branches.proofs.Readout.is_quiet.Goals as goal
 pub returns : goal.returns
 unfolding is_quiet_of
 returns c =
-    let start = c in
-    let four = start.well_formed.0.1.1.0.1.0.1 in
-    let bs = start.args.self.branches in
+    let four = c.well_formed.0.1.1.0.1.0.1 in
+    let bs = c.args.self.branches in
     rw (
       c.is_quiet-4.ensures,
       c.is_quiet-3.ensures,

@@ -12,20 +12,17 @@ use Rattle.branches.proofs.Readout.is_well_formed.Goals as goal
 
 pub returns-then-is_quiet : goal.returns-then-is_quiet
 returns-then-is_quiet c =
-    let tested = c in
-    let start = tested in
-    let four = start.well_formed.0.1.1.0.1.0.1 in
-    let a = start.args in
+    let four = c.well_formed.0.1.1.0.1.0.1 in
+    let a = c.args in
     let bs = a.self.branches in
-    let quiet = sym tested.is_quiet.ensures ∙ tested.if-is_quiet.true in
+    let quiet = sym c.is_quiet.ensures ∙ c.if-is_quiet.true in
     every_of_four (length bs) (λ k. eqb (branch_at bs k).words 0) four ∙ quiet_is_well_formed a.eight bs quiet
 
 pub returns : goal.returns
 unfolding is_well_formed_of
 returns c =
-    let start = c in
-    let four = start.well_formed.0.1.1.0.1.0.1 in
-    let a = start.args in
+    let four = c.well_formed.0.1.1.0.1.0.1 in
+    let a = c.args in
     let bs = a.self.branches in
     rw (
       c.is_sound_branch-4.ensures,

@@ -5,9 +5,8 @@ use Rattle.branches.proofs.Readout.standing.Goals as goal
 
 pub returns : goal.returns
 returns c =
-    let start = c in
-    let bs = start.args.self.branches in
-    let four = start.well_formed.0.1.1.0.1.0.1 in
+    let bs = c.args.self.branches in
+    let four = c.well_formed.0.1.1.0.1.0.1 in
     rw (
       c.standing_side-4.ensures,
       c.standing_side-3.ensures,

@@ -10,9 +10,8 @@ use Rattle.branches.proofs.Readout.step.Goals as goal
 
 pub returns-then-is_quiet-is_word : goal.returns-then-is_quiet-is_word
 returns-then-is_quiet-is_word c =
-    let start = c in
-    let four = start.well_formed.0.1.1.0.1.0.1 in
-    let a = start.args in
+    let four = c.well_formed.0.1.1.0.1.0.1 in
+    let a = c.args in
     let quiet : Bool = c.is_quiet.result in
     let word : Bool = c.is_word.result in
     let test : (quiet && not word) ≡ true = c.if-is_quiet-is_word.true in

@@ -7,9 +7,8 @@ use Rattle.branches.proofs.Readout.stepped.Goals as goal
 pub returns : goal.returns
 unfolding tabulate
 returns c =
-    let start = c in
-    let four = start.well_formed.0.1.1.0.1.0.1 in
-    let a = start.args in
+    let four = c.well_formed.0.1.1.0.1.0.1 in
+    let a = c.args in
     rw (
       c.gathered.ensures,
       c.step-s3.ensures,

@@ -23,22 +23,26 @@ pub returns-in-WriteRegister-clause-memory_after : goal.returns-in-WriteRegister
 returns-in-WriteRegister-clause-memory_after c =
     let printed = c.wrote.ensures in
     let done = c.write_register.ensures in
-    let asked = c.in-WriteRegister.is in rw (printed.next_value, done, asked) (with-next _ (sym (plain_write_next _ _ _)))
+    let asked = c.in-WriteRegister.is in
+    rw (printed.next_value, done, asked) (with-next _ (sym (plain_write_next _ _ _)))
 
 pub returns-in-WriteRegister-clause-at_after : goal.returns-in-WriteRegister-clause-at_after
 returns-in-WriteRegister-clause-at_after c =
     let printed = c.wrote.ensures in
     let done = c.write_register.ensures in
-    let asked = c.in-WriteRegister.is in rw (printed.at_after, done, asked) (with-reply 0 _ (sym (plain_write_reply _ _ _)))
+    let asked = c.in-WriteRegister.is in
+    rw (printed.at_after, done, asked) (with-reply 0 _ (sym (plain_write_reply _ _ _)))
 
 pub returns-in-ReadRegister-clause-memory_after : goal.returns-in-ReadRegister-clause-memory_after
 returns-in-ReadRegister-clause-memory_after c =
     let printed = c.gave.ensures in
     let done = c.read_register.ensures in
-    let asked = c.in-ReadRegister.is in rw (printed.next_value, done, asked) (with-next _ (sym (plain_read_next _ _)))
+    let asked = c.in-ReadRegister.is in
+    rw (printed.next_value, done, asked) (with-next _ (sym (plain_read_next _ _)))
 
 pub returns-in-ReadRegister-clause-at_after : goal.returns-in-ReadRegister-clause-at_after
 returns-in-ReadRegister-clause-at_after c =
     let printed = c.gave.ensures in
     let done = c.read_register.ensures in
-    let asked = c.in-ReadRegister.is in rw (printed.at_after, done, asked) (with-reply 8 _ (sym (plain_read_reply _ _)))
+    let asked = c.in-ReadRegister.is in
+    rw (printed.at_after, done, asked) (with-reply 8 _ (sym (plain_read_reply _ _)))

@@ -60,7 +60,8 @@ returns-then-number-lt-FIRST_SCALER c =
       ne_eqb _ _ c.if-number-eq-CONTROL.false,
       ne_eqb _ _ c.if-number-eq-CSR.false,
     )
-    (ap (λ (n : ℕ). Setting (Timer n)) (omega (arith, c.if-number-eq-INTERVAL.false, c.if-number-eq-ROC_ENABLE.false, c.if-number-lt-ROC_ENABLE.false)))
+    (ap (λ (n : ℕ). Setting (Timer n))
+    (omega (arith, c.if-number-eq-INTERVAL.false, c.if-number-eq-ROC_ENABLE.false, c.if-number-lt-ROC_ENABLE.false)))
 
 pub returns-then-number-lt-ASSIGN : goal.returns-then-number-lt-ASSIGN
 unfolding numbered_of
