@@ -2,8 +2,8 @@
 --     worked_script     the replies are those that document 01 prints
 -- Assumes nothing.
 use Rattle.std.proofs.Common.{◌≡◌, ℕ, List, [], ◌∷◌, refl}
-use Rattle.branch.specs.declared.Slot.{Slot}
-use Rattle.branch.specs.declared.Slot.TheVariants as slot
+use Rattle.branch.specs.Slots.{Slot}
+use Rattle.std.specs.Prelude.{None, Some}
 use Rattle.branches.specs.declared.Side.{Side}
 use Rattle.sequencer.specs.declared.states.Outcome.{Outcome}
 use Rattle.sequencer.specs.declared.states.Outcome.TheVariants as outcome
@@ -38,11 +38,11 @@ pub worked_script : replies_to script
     ≡ done
     ∷ done
     ∷ done
-    ∷ printed 1 0x0101 outcome.Nothing slot.Nothing slot.Nothing
-    ∷ printed 0 0x0115 outcome.Nothing slot.Nothing slot.Nothing
-    ∷ printed 0 0x0115 (outcome.Event 5) slot.Nothing slot.Nothing
-    ∷ printed 0 0 outcome.Nothing slot.Nothing (slot.Word 5)
-    ∷ printed 0 0 outcome.Nothing (slot.Word 5) slot.Nothing
+    ∷ printed 1 0x0101 outcome.Nothing None None
+    ∷ printed 0 0x0115 outcome.Nothing None None
+    ∷ printed 0 0x0115 (outcome.Event 5) None None
+    ∷ printed 0 0 outcome.Nothing None (Some 5)
+    ∷ printed 0 0 outcome.Nothing (Some 5) None
     ∷ []
 unfolding machine
 worked_script = refl

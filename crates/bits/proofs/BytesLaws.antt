@@ -10,10 +10,11 @@
 --     shift_is_byte    the code's shift to the right, masked, is a byte of the number
 --     masked_fits      .. and fits in eight bits
 --     shift_is_put     the code's shift to the left puts a byte above n bytes
+--     first_bytes      the bytes of a number as the library has them
 --     shift_is_below   the code's two shifts to the right ask whether a number has n bytes
 -- Assumes nothing.
 use Prim.Native.Nat.{ℕ, zero, suc, ◌+◌, ◌*◌, ◌/◌, ◌%◌, ◌^◌, ◌<◌, ◌≤◌}
-use mathlib.Core.Path.{◌≡◌, refl, ap}
+use mathlib.Core.Path.{◌≡◌, refl, sym, ap, ◌∙◌}
 use mathlib.Core.Bool.{Bool, true, false, ◌&&◌}
 use mathlib.Core.List.{List, [], ◌∷◌, ◌++◌}
 use native.Mathlib.Omega.{arith}
@@ -24,6 +25,7 @@ use lib.Dec.{eqb, ltb, lit<}
 use lib.Arith.{digits_lt}
 use lib.Bits.{bit_and, bit_or, and_mask, and_le_r, or_shifted_r}
 use borrow.Author.Tests.{eq-eqb, ne_eqb, ltb-true, ltb-false}
+use Rattle.std.specs.Int.{bytes_low_first}
 use Rattle.bits.specs.Bytes.{byte_at, bytes, all_of}
 use Rattle.bits.proofs.TestLaws.{and_left, and_right, and_both}
 
@@ -130,3 +132,18 @@ pub shift_is_below : (n v : ℕ) → eqb (v / 2 ^ (4 * n) / 2 ^ (4 * n)) 0 ≡ l
 shift_is_below n v =
     rw (div-div-eq-div-mul v (2 ^ (4 * n)) (2 ^ (4 * n)), half_power n)
     (quotient_zero v (256 ^ n) (one-le-pow n 256 (lit< tt)))
+
+-- ---- the library's bytes
+
+-- the bytes from one upward are those of the number without the bytes below
+low_bytes : (i n v : ℕ) → bytes_low_first i n v ≡ bytes n (v / 256 ^ i)
+unfolding bytes
+low_bytes i zero v = refl
+low_bytes zero (suc n) v = rw (div-one v) (ap (λ (l : List ℕ). v % 256 ∷ l) (low_bytes 1 n v))
+low_bytes (suc i) (suc n) v =
+    ap (λ (l : List ℕ). v / 256 ^ suc i % 256 ∷ l)
+    (low_bytes (suc (suc i)) n v
+    ∙ ap (bytes n) (ap (λ (w : ℕ). v / w) (pow-suc 256 (suc i)) ∙ sym (div-div-eq-div-mul v (256 ^ suc i) 256)))
+
+pub first_bytes : (n v : ℕ) → bytes_low_first 0 n v ≡ bytes n v
+first_bytes n v = low_bytes 0 n v ∙ ap (bytes n) (div-one v)

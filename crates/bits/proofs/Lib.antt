@@ -3,3 +3,4 @@ pub mod TestLaws
 pub mod BitsLaws
 pub mod WidthLaws
 pub mod BytesLaws
+pub mod ListLaws

@@ -19,27 +19,26 @@ pub fn bit_at(word: u32, i: u32) -> bool
     false
 }
 
-// The second clause is what a sum of such digits asks: that it fits.
+// `u32::from` under the definition's name. The second clause is what a sum of such digits asks: that it fits.
 pub fn one_if(t: bool) -> u32
     ensures value { result ≡ one_if_of t }
     ensures upper_bound { result ≤ 1 }
 {
-    if t { 1 } else { 0 }
+    u32::from(t)
 }
 
-// The word whose bits are given, lowest first. The second clause is what a sum of such words asks.
-pub fn mask8(ts: [bool; 8]) -> u32
-    ensures value { result ≡ mask_of 8 (λ i. get_or ts i false) }
-    ensures upper_bound { result < 256 }
+// The byte whose bits are given, lowest first: a sum, since a fold over them would have to carry that it fits.
+pub fn mask8(ts: [bool; 8]) -> u8
+    ensures { result ≡ mask_of 8 (λ i. get_or ts i false) }
 {
-    one_if(ts[0])
-        + 2 * one_if(ts[1])
-        + 4 * one_if(ts[2])
-        + 8 * one_if(ts[3])
-        + 16 * one_if(ts[4])
-        + 32 * one_if(ts[5])
-        + 64 * one_if(ts[6])
-        + 128 * one_if(ts[7])
+    u8::from(ts[0])
+        + 2 * u8::from(ts[1])
+        + 4 * u8::from(ts[2])
+        + 8 * u8::from(ts[3])
+        + 16 * u8::from(ts[4])
+        + 32 * u8::from(ts[5])
+        + 64 * u8::from(ts[6])
+        + 128 * u8::from(ts[7])
 }
 
 pub fn set(word: u32, mask: u32) -> u32
@@ -62,7 +61,8 @@ pub fn has_only(word: u32, mask: u32) -> bool
 }
 
 // [Registers.1] [Split.2b] register 10's layout, which the acknowledges share
-// [Split.2a] by shifts and masks; no other place takes such a word apart
+// [Split.2a] by shifts and masks, not by `to_le_bytes`; no other place takes such a word apart
+#[tactic(auto, unfolding(crate::specs::Bits::tabulate))]
 pub fn bytes(word: u32) -> [u8; 4]
     ensures { result ≡ bytes_of word }
 {
@@ -74,7 +74,7 @@ pub fn bytes(word: u32) -> [u8; 4]
 }
 
 // A choice without a branch in the code above it.
-pub fn select(t: bool, a: u64, b: u64) -> u64
+pub fn select<T: Copy>(t: bool, a: T, b: T) -> T
     ensures { result ≡ (if t then a else b) }
 {
     if t { a } else { b }

@@ -15,8 +15,8 @@ use Rattle.branch.specs.BranchFields.{with_words, with_len, with_phase}
 use Rattle.branch.specs.Slots.{words_in}
 use Rattle.branch.specs.declared.Phase.{Phase}
 use Rattle.branch.specs.declared.Phase.TheVariants.{Rest, Strobe, Drop}
-use Rattle.branch.specs.declared.Slot.{Slot}
-use Rattle.branch.specs.declared.Slot.TheVariants.{Nothing, Word}
+use Rattle.branch.specs.Slots.{Slot}
+use Rattle.std.specs.Prelude.{None, Some}
 use Rattle.branch.specs.declared.Branch.{Branch}
 use Rattle.branch.specs.declared.BranchStep.{BranchStep}
 
@@ -95,16 +95,16 @@ after_move finishes b = b ▷ remove_first ▷ with_phase Drop
 after_move rests b = b ▷ with_phase Rest
 
 abbrev pub finished_by : Move → Branch → Slot
-finished_by stays b = Nothing
-finished_by strobes b = Nothing
-finished_by finishes b = Word (first b)
-finished_by rests b = Nothing
+finished_by stays b = None
+finished_by strobes b = None
+finished_by finishes b = Some (first b)
+finished_by rests b = None
 
 -- [Branches.1] DECISIONS B1: the first word is shown in every answer after which the branch stands at Strobe
 abbrev pub shown_in : Phase → Branch → Slot
-shown_in Rest b = Nothing
-shown_in Strobe b = Word (first b)
-shown_in Drop b = Nothing
+shown_in Rest b = None
+shown_in Strobe b = Some (first b)
+shown_in Drop b = None
 
 -- ---- the step
 
@@ -126,8 +126,8 @@ has_free_place_of b = ltb b.len queue_depth
 
 -- DECISIONS B2: a full queue takes no load; no call meets this, since a record in which it could is spoiled
 unfoldable pub appended_of : Slot → Branch → Branch
-appended_of Nothing b = b
-appended_of (Word w) b = if has_free_place_of b then b ▷ append_word w else b
+appended_of None b = b
+appended_of (Some w) b = if has_free_place_of b then b ▷ append_word w else b
 
 -- [Branches.5] the move first, then the load: a word loaded into an empty branch waits for the next tick
 unfoldable pub step_of : (acks enabled : ℕ) → Slot → Branch → BranchStep
@@ -180,9 +180,9 @@ is_six_bit_load load = all_of is_six_bit (words_in load)
 
 -- a load has a free place, and no load needs none
 abbrev pub has_place_for : Slot → Branch → Bool
-has_place_for Nothing b = true
-has_place_for (Word w) b = has_free_place_of b
+has_place_for None b = true
+has_place_for (Some w) b = has_free_place_of b
 
 -- what a tick gives of a branch that it leaves as b, with nothing finished and nothing shown
 abbrev pub silent : Branch → BranchStep
-silent b = record { next = b; finished = Nothing; shown = Nothing }
+silent b = record { next = b; finished = None; shown = None }

@@ -3,37 +3,34 @@
 // no index and no loop. Every public contract is an equality with a definition of specs/Branch.antt.
 #![tactic(auto)]
 
-ghost use Rattle.std.specs.Prelude.{◌≡◌, ◌&&◌, ◌+◌, ◌-◌, ◌*◌, ◌%◌, ◌^◌, ltb, if◌then◌else◌};
+ghost use Rattle.std.specs.Prelude.{◌≡◌, ◌&&◌, ◌+◌, ◌-◌, ◌*◌, ◌%◌, ◌^◌, ltb, None, Some, if◌then◌else◌};
+ghost use Rattle.std.specs.List.{list_all};
 ghost use Rattle.std.specs.Int.Bits.{bit_or};
 ghost use Rattle.bits.specs.Bytes.{bytes, all_of};
 ghost use Rattle.branch.specs.Slots.{is_word_of, word_of};
 ghost use Rattle.branch.specs.Branch.{queue_depth, is_six_bit, fresh_of, is_rest_of, is_strobe_of, all_high, all_low};
 ghost use Rattle.branch.specs.Branch.{is_quiet_of, has_free_place_of, moved_of, appended_of, step_of, is_well_formed_of};
 ghost use Rattle.branch.specs.declared.Phase.TheVariants.{Rest, Strobe, Drop};
-ghost use Rattle.branch.specs.declared.Slot.TheVariants.{Nothing, Word};
 
 use bits::select;
 
-// One bit for each readout controller of a branch: its acknowledge, or whether it is enabled.
+// One bit for each readout controller of a branch: its acknowledge, or whether it is enabled. The two go as two bytes: a struct of both
+// would be made at each call and taken apart in it.
 pub type Controllers = u8;
 
-#[derive(Clone, Copy)]
+#[derive(Clone, Copy, PartialEq, Eq)]
 pub enum Phase {
     Rest,
     Strobe,
     Drop,
 }
 
-// A load, a finished word or a shown one.
-#[derive(Clone, Copy)]
-pub enum Slot {
-    Nothing,
-    Word(u8),
-}
+// A load, a finished word or a shown one; none where there is no word.
+pub type Slot = Option<u8>;
 
 #[derive(Clone, Copy)]
 pub struct Branch {
-    // place j is byte j
+    // place j is byte j: one number and not an array or a queue of std's, since a step is then shifts and choices (DECISIONS F1)
     pub words: u64,
     // how many places are used; DECISIONS F1 has the width
     pub len: u32,
@@ -51,41 +48,13 @@ impl Phase {
     pub fn is_rest(self) -> bool
         ensures { result ≡ is_rest_of self }
     {
-        match self {
-            Phase::Rest => true,
-            Phase::Strobe => false,
-            Phase::Drop => false
-        }
+        matches!(self, Phase::Rest)
     }
 
     pub fn is_strobe(self) -> bool
         ensures { result ≡ is_strobe_of self }
     {
-        match self {
-            Phase::Rest => false,
-            Phase::Strobe => true,
-            Phase::Drop => false
-        }
-    }
-}
-
-impl Slot {
-    pub fn is_word(self) -> bool
-        ensures { result ≡ is_word_of self }
-    {
-        match self {
-            Slot::Nothing => false,
-            Slot::Word(w) => true
-        }
-    }
-
-    pub fn word(self) -> u8
-        ensures { result ≡ word_of self }
-    {
-        match self {
-            Slot::Nothing => 0,
-            Slot::Word(w) => w
-        }
+        matches!(self, Phase::Strobe)
     }
 }
 
@@ -105,12 +74,12 @@ pub fn all_low(acks: Controllers, enabled: Controllers) -> bool
     acks & enabled == 0
 }
 
-// ---- parts of a step: each chooses one field
+// ---- parts of a step: each chooses one field, under the name of the choice; by `select` each would be written out at its use
 
 fn slot_if(t: bool, w: u8) -> Slot
-    ensures { result ≡ (if t then Word w else Nothing) }
+    ensures { result ≡ (if t then Some w else None) }
 {
-    if t { Slot::Word(w) } else { Slot::Nothing }
+    t.then_some(w)
 }
 
 fn phase_if(shows: bool, drops: bool) -> Phase
@@ -161,25 +130,16 @@ fn are_unused_zero(words: u64, len: u32) -> bool
     words >> half >> half == 0
 }
 
+fn all_six_bit(words: &[u8]) -> bool
+    ensures { result ≡ list_all is_six_bit words.now }
+{
+    words.iter().all(|word| *word <= Branch::WORD_LIMIT)
+}
+
 fn are_six_bit(words: u64) -> bool
     ensures { result ≡ all_of is_six_bit (bytes queue_depth words) }
 {
-    let w1 = words / 256;
-    let w2 = w1 / 256;
-    let w3 = w2 / 256;
-    let w4 = w3 / 256;
-    let w5 = w4 / 256;
-    let w6 = w5 / 256;
-    let w7 = w6 / 256;
-    let six0 = words % 256 <= Branch::WORD_LIMIT;
-    let six1 = w1 % 256 <= Branch::WORD_LIMIT;
-    let six2 = w2 % 256 <= Branch::WORD_LIMIT;
-    let six3 = w3 % 256 <= Branch::WORD_LIMIT;
-    let six4 = w4 % 256 <= Branch::WORD_LIMIT;
-    let six5 = w5 % 256 <= Branch::WORD_LIMIT;
-    let six6 = w6 % 256 <= Branch::WORD_LIMIT;
-    let six7 = w7 % 256 <= Branch::WORD_LIMIT;
-    six0 & (six1 & (six2 & (six3 & (six4 & (six5 & (six6 & (six7 & true)))))))
+    all_six_bit(&words.to_le_bytes())
 }
 
 impl Branch {
@@ -187,7 +147,7 @@ impl Branch {
     pub const DEPTH: u32 = 8;
 
     // [Spoiled.1f] 3Fh
-    pub const WORD_LIMIT: u64 = 63;
+    pub const WORD_LIMIT: u8 = 63;
 
     // [Registers.4] no word, at rest
     pub fn fresh() -> Branch
@@ -218,6 +178,7 @@ impl Branch {
     }
 
     // [Branches.1] [Branches.2] [Branches.3] [Branches.4] the handshake's move, without the load
+    #[tactic(auto, unfolding(crate::specs::Branch::moved_of))]
     pub fn moved(self, acks: Controllers, enabled: Controllers) -> BranchStep
         ensures { result ≡ moved_of acks enabled self }
     {
@@ -254,8 +215,8 @@ impl Branch {
         let len = self.len;
         let phase = self.phase;
         let free = self.has_free_place();
-        let adds = load.is_word() & free;
-        let longer = put(words, len, load.word());
+        let adds = load.is_some() & free;
+        let longer = put(words, len, load.unwrap_or(0));
         Branch {
             words: select(adds, longer, words),
             len: one_more_if(adds, len),
@@ -264,6 +225,7 @@ impl Branch {
     }
 
     // [Branches.5] the move, then the load
+    #[tactic(auto, unfolding(crate::specs::Branch::step_of))]
     pub fn step(self, acks: Controllers, enabled: Controllers, load: Slot) -> BranchStep
         ensures { result ≡ step_of acks enabled load self }
     {
@@ -280,6 +242,7 @@ impl Branch {
     }
 
     // [Spoiled.1d] [Spoiled.1f] [Spoiled.1g] nothing here spoils the record
+    #[tactic(auto, unfolding(crate::specs::Branch::is_well_formed_of))]
     pub fn is_well_formed(self) -> bool
         ensures { result ≡ is_well_formed_of self }
     {

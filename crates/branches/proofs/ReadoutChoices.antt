@@ -26,8 +26,8 @@ use Rattle.branch.specs.Slots.{is_word_of}
 use Rattle.branch.proofs.BranchLaws.{quiet_step_silent}
 use Rattle.branch.specs.declared.Phase.{Phase}
 use Rattle.branch.specs.declared.Phase.TheVariants.{Rest, Strobe, Drop}
-use Rattle.branch.specs.declared.Slot.{Slot}
-use Rattle.branch.specs.declared.Slot.TheVariants.{Nothing, Word}
+use Rattle.branch.specs.Slots.{Slot}
+use Rattle.std.specs.Prelude.{None, Some}
 use Rattle.branch.specs.declared.Branch.{Branch}
 use Rattle.branch.specs.declared.BranchStep.{BranchStep}
 use Rattle.branches.specs.ReadoutFields.{with_branches, with_acks, branch_at}
@@ -79,9 +79,9 @@ standing_of_four bs h = ap (λ (k : ℕ). tabulate k (λ i. standing_side_of (br
 
 -- ---- nothing moves
 
-is_nothing : (load : Slot) → is_word_of load ≡ false → load ≡ Nothing
-is_nothing Nothing h = refl
-is_nothing (Word w) h = absurd (true≢false h)
+is_nothing : (load : Slot) → is_word_of load ≡ false → load ≡ None
+is_nothing None h = refl
+is_nothing (Some w) h = absurd (true≢false h)
 
 pub quiet_is_silent : (acks : ℕ) (load : Slot) (r : Readout) → length r.branches ≡ 4
     → is_quiet_of r.branches ≡ true → is_word_of load ≡ false → silent_of acks r ≡ step_of acks load r

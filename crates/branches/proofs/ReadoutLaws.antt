@@ -25,8 +25,8 @@ use Rattle.bits.proofs.BitsLaws.{tabulate_at, tabulate_past, tabulate_length}
 use Rattle.branch.specs.Branch as branch
 use Rattle.branch.specs.Branch.{queue_depth, held, has_place_for, is_six_bit_load, WellFormedBranch}
 use Rattle.branch.specs.Slots.{words_in, is_word_of}
-use Rattle.branch.specs.declared.Slot.{Slot}
-use Rattle.branch.specs.declared.Slot.TheVariants.{Nothing, Word}
+use Rattle.branch.specs.Slots.{Slot}
+use Rattle.std.specs.Prelude.{None, Some}
 use Rattle.branch.specs.declared.Branch.{Branch}
 use Rattle.branch.specs.declared.BranchStep.{BranchStep}
 use Rattle.branch.proofs.BranchLaws as laws
@@ -53,8 +53,8 @@ module _ (eight : Bool) (bs : List Branch) (fine : is_well_formed_of eight bs �
 
   -- [Spoiled.1f] seven words at most where eight are not allowed
   pub room_for_load : (load : Slot) → (is_word_of load ≡ true → eight ≡ false) → has_place_for load at ≡ true
-  room_for_load Nothing rule = refl
-  room_for_load (Word w) rule =
+  room_for_load None rule = refl
+  room_for_load (Some w) rule =
       or_rest eight (branch.has_free_place_of at) (and_left (eight || branch.has_free_place_of at) (branch.is_well_formed_of at) sound_at)
       (rule refl)
 
@@ -138,7 +138,7 @@ module _ (bs : List Branch) (k : ℕ) (h : k < length bs) where
       go false room = room
 
 -- [Test.7a]
-pub standing_finishes_nothing : (bs : List Branch) (k : ℕ) → (get_or (standing_of bs) k no_side).finished ≡ Nothing
+pub standing_finishes_nothing : (bs : List Branch) (k : ℕ) → (get_or (standing_of bs) k no_side).finished ≡ None
 unfolding standing_of
 standing_finishes_nothing bs k = go (ltb k (length bs)) refl
   where
@@ -149,7 +149,7 @@ standing_finishes_nothing bs k = go (ltb k (length bs)) refl
         → (get_or (tabulate (length bs) side) k no_side).finished ≡ v.finished
     at_place v e = ap (λ (w : Side). w.finished) e
 
-    go : (t : Bool) → ltb k (length bs) ≡ t → (get_or (tabulate (length bs) side) k no_side).finished ≡ Nothing
+    go : (t : Bool) → ltb k (length bs) ≡ t → (get_or (tabulate (length bs) side) k no_side).finished ≡ None
     go true e = at_place (side k) (tabulate_at (length bs) side k no_side (ltb-true k (length bs) e))
     go false e = at_place no_side (tabulate_past (length bs) side k no_side (ltb-false k (length bs) e))
 

@@ -18,8 +18,8 @@ use Rattle.bits.specs.Notation.{◌▷◌}
 use Rattle.bits.specs.Bits.{tabulate, every}
 use Rattle.bits.specs.Bytes.{byte_at}
 use Rattle.branch.specs.Branch as branch
-use Rattle.branch.specs.declared.Slot.{Slot}
-use Rattle.branch.specs.declared.Slot.TheVariants.{Nothing}
+use Rattle.branch.specs.Slots.{Slot}
+use Rattle.std.specs.Prelude.{None}
 use Rattle.branch.specs.declared.Branch.{Branch}
 use Rattle.branch.specs.declared.BranchStep.{BranchStep}
 use Rattle.branches.specs.ReadoutFields.{with_branches, with_acks, branch_at}
@@ -108,7 +108,7 @@ gathered_of s0 s1 s2 s3 roc acks =
 
 -- and where nothing moves
 abbrev pub no_side : Side
-no_side = record { finished = Nothing; shown = Nothing }
+no_side = record { finished = None; shown = None }
 
 abbrev pub silent_of : (acks : ℕ) → Readout → ReadoutStep
 silent_of acks r = record { next = r ▷ with_acks acks; sides = no_side ∷ no_side ∷ no_side ∷ no_side ∷ [] }
@@ -117,7 +117,7 @@ silent_of acks r = record { next = r ▷ with_acks acks; sides = no_side ∷ no_
 
 -- [Test.7a] nothing finishes, and the word shown is as it stands
 abbrev pub standing_side_of : Branch → Side
-standing_side_of b = record { finished = Nothing; shown = branch.shown_in b.phase b }
+standing_side_of b = record { finished = None; shown = branch.shown_in b.phase b }
 
 unfoldable pub standing_of : List Branch → List Side
 standing_of bs = tabulate (length bs) (λ k. standing_side_of (branch_at bs k))

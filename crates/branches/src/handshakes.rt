@@ -5,29 +5,25 @@ ghost use Rattle.branches.specs.Handshakes.{strobes_of, ands_of, ors_of};
 use crate::Readout;
 use branch::{all_high, all_low};
 
+// Four tests written out: by `array::from_fn` the proof of `ands` did not close (the law of a byte at a place is not found), nor that
+// of `strobes` by `map`; one function that takes the test as a closure would have to say what the closure does.
 impl Readout {
     // [State.2]
+    #[tactic(auto, unfolding(crate::specs::Handshakes::strobes_of, bits::specs::Bits::tabulate))]
     pub fn strobes(self) -> [bool; 4]
         ensures { result ≡ strobes_of self }
     {
-        let bs = self.branches;
-        let b0 = bs[0];
-        let b1 = bs[1];
-        let b2 = bs[2];
-        let b3 = bs[3];
-        let phase0 = b0.phase;
-        let phase1 = b1.phase;
-        let phase2 = b2.phase;
-        let phase3 = b3.phase;
+        let [b0, b1, b2, b3] = self.branches;
         [
-            phase0.is_strobe(),
-            phase1.is_strobe(),
-            phase2.is_strobe(),
-            phase3.is_strobe(),
+            b0.phase.is_strobe(),
+            b1.phase.is_strobe(),
+            b2.phase.is_strobe(),
+            b3.phase.is_strobe(),
         ]
     }
 
     // [State.7] all acknowledges of the enabled controllers
+    #[tactic(auto, unfolding(crate::specs::Handshakes::ands_of, bits::specs::Bits::tabulate))]
     pub fn ands(self) -> [bool; 4]
         ensures { result ≡ ands_of self }
     {
@@ -42,6 +38,7 @@ impl Readout {
     }
 
     // [State.7] some of them
+    #[tactic(auto, unfolding(crate::specs::Handshakes::ors_of, bits::specs::Bits::tabulate))]
     pub fn ors(self) -> [bool; 4]
         ensures { result ≡ ors_of self }
     {

@@ -3,22 +3,16 @@ ghost use Rattle.std.specs.Prelude.{◌≡◌};
 ghost use Rattle.branches.specs.Readout.{standing_side_of, standing_of};
 
 use crate::{Readout, Side};
-use branch::{Branch, Phase, Slot};
+use branch::Branch;
 
 // [Test.7a] one branch: nothing finishes
 fn standing_side(b: Branch) -> Side
     ensures { result ≡ standing_side_of b }
 {
     let first = (b.words % 256) as u8;
-    let phase = b.phase;
-    let shown = match phase {
-        Phase::Rest => Slot::Nothing,
-        Phase::Strobe => Slot::Word(first),
-        Phase::Drop => Slot::Nothing,
-    };
     Side {
-        finished: Slot::Nothing,
-        shown,
+        finished: None,
+        shown: b.phase.is_strobe().then_some(first),
     }
 }
 
@@ -27,11 +21,7 @@ impl Readout {
     pub fn standing(self) -> [Side; 4]
         ensures { result ≡ standing_of self.branches }
     {
-        let bs = self.branches;
-        let b0 = bs[0];
-        let b1 = bs[1];
-        let b2 = bs[2];
-        let b3 = bs[3];
+        let [b0, b1, b2, b3] = self.branches;
         [
             standing_side(b0),
             standing_side(b1),

@@ -11,21 +11,16 @@ ghost use Rattle.declines.specs.Calls.{write_memory_of, memory_after_of, read_me
 ghost use Rattle.declines.specs.Fill.{fill_memory_of, memory_filled_of};
 
 use access::{after_read, merged, shown, written};
-use declines::{
-    BytesDecline, BytesReadDone, BytesReading, BytesVerdict, BytesWriteDone, Decline, FillDecline,
-    FillDone, FillVerdict, ReadDone, Reading, TickDone, Verdict, WriteDone,
-};
+use declines::{BytesDecline, Decline, Done, FillDecline};
 use registers::csr::Csr;
 use registers::register::Register;
 use run::Run;
-use supervisor::Supervisor;
+use supervisor::{Answer, Supervisor};
 use trigger::lines::Inputs;
 
 mod refusals;
 
-use refusals::{
-    by_bytes, marked, read_by_bytes, refused, refused_fill, refused_read, refused_tick,
-};
+use refusals::{lent, marked, place_in, readable, refused, writable};
 
 // [Memory.1]
 pub const MEMORY_PLACES: usize = 4096;
@@ -35,12 +30,6 @@ pub const TRIGGERS_LIMIT: u32 = 4095;
 
 pub const LINES_LIMIT: u32 = 127;
 
-fn wide(word: u16) -> u32
-    ensures { result ≡ word }
-{
-    word as u32
-}
-
 // ---- register calls
 
 // [Declines.2c] [Test.2] the register is not written while the record is active
@@ -48,209 +37,177 @@ fn is_guarded(s: Supervisor, register: Register) -> bool
     ensures { result ≡ is_guarded_of register s }
 {
     let facts = register.facts();
-    let csr = s.core.csr;
-    facts.protected & !(facts.opened & csr.is_test_mode())
+    facts.protected && !(facts.opened && s.core.csr.is_test_mode())
 }
 
 // [Declines.2c] [Declines.2d] the rest of a write: a register that may be written, and a run of its bytes
-fn write_run(s: Supervisor, register: Register, run: Run, value: u32) -> WriteDone
+#[tactic(auto, unfolding(declines::specs::Calls::write_run_of))]
+fn write_run(s: Supervisor, register: Register, run: Run, value: u32) -> Done<Result<(), Decline>>
     ensures { result ≡ write_run_of register run value s }
 {
-    if s.is_active() & is_guarded(s, register) {
+    if s.is_active() && is_guarded(s, register) {
         return refused(marked(s, Csr::WRITE_ERROR), Decline::Active);
     }
     let word = merged(s, register, run, value);
     if !register.is_valid_value(word) {
         return refused(s, Decline::Value);
     }
-    WriteDone {
+    Done {
         next: written(s, register, run.has_byte_3(), word),
-        answer: Verdict::Done,
+        answer: Ok(()),
     }
 }
 
 // [Declines.3b] [Bytes.7] the rest of a read: a register that may be read, and a run of its bytes
-fn read_run(s: Supervisor, register: Register, run: Run) -> ReadDone
+#[tactic(auto, unfolding(declines::specs::Calls::read_run_of))]
+fn read_run(s: Supervisor, register: Register, run: Run) -> Done<Result<u32, Decline>>
     ensures { result ≡ read_run_of register run s }
 {
     let next = after_read(s, register, run.has_byte_3());
-    ReadDone {
+    Done {
         next,
-        answer: Reading::Value(run.cut(shown(next, register))),
+        answer: Ok(run.cut(shown(next, register))),
     }
 }
 
 // [Declines.2a] [Declines.2b] [Declines.2c] [Declines.2d] all four bytes
-pub fn write_register(s: Supervisor, number: u32, value: u32) -> WriteDone
+#[tactic(auto, unfolding(declines::specs::Calls::write_register_of))]
+pub fn write_register(s: Supervisor, number: u32, value: u32) -> Done<Result<(), Decline>>
     ensures { result ≡ write_register_of number value s }
 {
-    if s.is_spoiled() {
-        return refused(s, Decline::Spoiled);
+    match writable(s, number) {
+        Ok(register) => write_run(s, register, Run::whole(), value),
+        Err(why) => refused(s, why),
     }
-    let register = Register::numbered(number);
-    let facts = register.facts();
-    if !facts.writable {
-        return refused(s, Decline::Place);
-    }
-    write_run(s, register, Run::whole(), value)
 }
 
 // [Declines.3a] [Declines.3b] all four bytes
-pub fn read_register(s: Supervisor, number: u32) -> ReadDone
+#[tactic(auto, unfolding(declines::specs::Calls::read_register_of))]
+pub fn read_register(s: Supervisor, number: u32) -> Done<Result<u32, Decline>>
     ensures { result ≡ read_register_of number s }
 {
-    if s.is_spoiled() {
-        return refused_read(s, Decline::Spoiled);
+    match readable(s, number) {
+        Ok(register) => read_run(s, register, Run::whole()),
+        Err(why) => refused(s, why),
     }
-    let register = Register::numbered(number);
-    let facts = register.facts();
-    if !facts.readable {
-        return refused_read(s, Decline::Place);
-    }
-    read_run(s, register, Run::whole())
 }
 
 // [Bytes.2] [Bytes.11] a run of the bytes, each in its place in the value
-pub fn write_bytes(s: Supervisor, number: u32, run: Run, value: u32) -> BytesWriteDone
+#[tactic(auto, unfolding(declines::specs::Calls::write_bytes_of))]
+pub fn write_bytes(
+    s: Supervisor,
+    number: u32,
+    run: Run,
+    value: u32,
+) -> Done<Result<(), BytesDecline>>
     ensures { result ≡ write_bytes_of number run value s }
 {
-    if s.is_spoiled() {
-        return by_bytes(refused(s, Decline::Spoiled));
+    match writable(s, number) {
+        Err(why) => refused(s, BytesDecline::from(why)),
+        Ok(_) if !run.is_run() => refused(s, BytesDecline::BadRun),
+        Ok(register) => write_run(s, register, run, value).by_bytes(),
     }
-    let register = Register::numbered(number);
-    let facts = register.facts();
-    if !facts.writable {
-        return by_bytes(refused(s, Decline::Place));
-    }
-    if !run.is_run() {
-        return BytesWriteDone {
-            next: s,
-            answer: BytesVerdict::Declined(BytesDecline::BadRun),
-        };
-    }
-    by_bytes(write_run(s, register, run, value))
 }
 
 // [Bytes.2] [Bytes.7] [Bytes.11] a run of the bytes, each in its place in the value, and 0 elsewhere
-pub fn read_bytes(s: Supervisor, number: u32, run: Run) -> BytesReadDone
+#[tactic(auto, unfolding(declines::specs::Calls::read_bytes_of))]
+pub fn read_bytes(s: Supervisor, number: u32, run: Run) -> Done<Result<u32, BytesDecline>>
     ensures { result ≡ read_bytes_of number run s }
 {
-    if s.is_spoiled() {
-        return read_by_bytes(refused_read(s, Decline::Spoiled));
+    match readable(s, number) {
+        Err(why) => refused(s, BytesDecline::from(why)),
+        Ok(_) if !run.is_run() => refused(s, BytesDecline::BadRun),
+        Ok(register) => read_run(s, register, run).by_bytes(),
     }
-    let register = Register::numbered(number);
-    let facts = register.facts();
-    if !facts.readable {
-        return read_by_bytes(refused_read(s, Decline::Place));
-    }
-    if !run.is_run() {
-        return BytesReadDone {
-            next: s,
-            answer: BytesReading::Declined(BytesDecline::BadRun),
-        };
-    }
-    read_by_bytes(read_run(s, register, run))
 }
 
 // ---- memory calls
 
 // [Declines.4a] [Declines.4b] [Declines.4c] [Declines.4d]
-pub fn write_memory(s: Supervisor, memory: &mut [u16], place: u32, word: u16) -> WriteDone
+#[tactic(auto, unfolding(declines::specs::Calls::write_memory_of, declines::specs::Calls::memory_after_of))]
+pub fn write_memory(
+    s: Supervisor,
+    memory: &mut [u16],
+    place: u32,
+    word: u16,
+) -> Done<Result<(), Decline>>
     ensures value { result ≡ write_memory_of memory.old place s }
     ensures memory_after { memory.new ≡ memory_after_of memory.old place word s }
 {
-    if s.is_spoiled() {
-        return refused(s, Decline::Spoiled);
-    }
-    if memory.len() != MEMORY_PLACES {
-        return refused(s, Decline::Length);
-    }
-    let at = place as usize;
-    if MEMORY_PLACES <= at {
-        return refused(s, Decline::Place);
-    }
+    let at = match place_in(s, memory, place) {
+        Ok(at) => at,
+        Err(why) => return refused(s, why),
+    };
     if s.is_active() {
         return refused(marked(s, Csr::WRITE_ERROR), Decline::Active);
     }
     memory[at] = word;
-    WriteDone {
+    Done {
         next: s,
-        answer: Verdict::Done,
+        answer: Ok(()),
     }
 }
 
 // [Declines.4a] [Declines.4b] [Declines.4c] [Declines.4d]
-pub fn read_memory(s: Supervisor, memory: &[u16], place: u32) -> ReadDone
+#[tactic(auto, unfolding(declines::specs::Calls::read_memory_of))]
+pub fn read_memory(s: Supervisor, memory: &[u16], place: u32) -> Done<Result<u32, Decline>>
     ensures { result ≡ read_memory_of memory.now place s }
 {
-    if s.is_spoiled() {
-        return refused_read(s, Decline::Spoiled);
-    }
-    if memory.len() != MEMORY_PLACES {
-        return refused_read(s, Decline::Length);
-    }
-    let at = place as usize;
-    if MEMORY_PLACES <= at {
-        return refused_read(s, Decline::Place);
-    }
-    if s.is_active() {
-        return refused_read(marked(s, Csr::READ_ERROR), Decline::Active);
-    }
-    ReadDone {
-        next: s,
-        answer: Reading::Value(wide(memory[at])),
+    match place_in(s, memory, place) {
+        Err(why) => refused(s, why),
+        Ok(_) if s.is_active() => refused(marked(s, Csr::READ_ERROR), Decline::Active),
+        Ok(at) => Done {
+            next: s,
+            answer: Ok(u32::from(memory[at])),
+        },
     }
 }
 
 // [Table.4] [Table.8a] [Table.8b] every place, from twelve words, one for each input
-pub fn fill_memory(s: Supervisor, memory: &mut [u16], words: [u16; 12]) -> FillDone
+#[tactic(auto, unfolding(declines::specs::Fill::fill_memory_of, declines::specs::Fill::memory_filled_of))]
+pub fn fill_memory(
+    s: Supervisor,
+    memory: &mut [u16],
+    words: [u16; 12],
+) -> Done<Result<(), FillDecline>>
     ensures value { result ≡ fill_memory_of memory.old words s }
     ensures memory_after { memory.new ≡ memory_filled_of memory.old words s }
 {
-    if s.is_spoiled() {
-        return refused_fill(s, FillDecline::Plain(Decline::Spoiled));
-    }
-    if memory.len() != MEMORY_PLACES {
-        return refused_fill(s, FillDecline::Plain(Decline::Length));
+    if let Err(why) = lent(s, memory) {
+        return refused(s, FillDecline::from(why));
     }
     if s.is_active() {
-        return refused_fill(
+        return refused(
             marked(s, Csr::WRITE_ERROR),
-            FillDecline::Plain(Decline::Active),
+            FillDecline::from(Decline::Active),
         );
     }
     if !table::are_taken(words) {
-        return refused_fill(s, FillDecline::BadWord);
+        return refused(s, FillDecline::BadWord);
     }
     table::fill(memory, words);
-    FillDone {
+    Done {
         next: s,
-        answer: FillVerdict::Done,
+        answer: Ok(()),
     }
 }
 
 // ---- the tick
 
-// [Declines.5a] [Declines.5b] [Declines.5c]
-pub fn tick(s: Supervisor, memory: &[u16], x: Inputs) -> TickDone
+// [Declines.5a] [Declines.5b] [Declines.5c]; DECISIONS F28: the record of a declined tick is rebuilt, for speed
+#[tactic(auto, unfolding(declines::specs::Calls::tick_of))]
+pub fn tick(s: Supervisor, memory: &[u16], x: Inputs) -> Done<Result<Answer, Decline>>
     ensures { result ≡ tick_of memory.now x s }
 {
-    if s.is_spoiled() {
-        return refused_tick(s, Decline::Spoiled);
+    if let Err(why) = lent(s, memory) {
+        return refused(s.rebuilt(), why);
     }
-    if memory.len() != MEMORY_PLACES {
-        return refused_tick(s, Decline::Length);
-    }
-    let lines = x.lines;
-    if (TRIGGERS_LIMIT < x.triggers) | (LINES_LIMIT < lines.word) {
-        return refused_tick(s, Decline::Value);
+    if TRIGGERS_LIMIT < x.triggers || LINES_LIMIT < x.lines.word {
+        return refused(s.rebuilt(), Decline::Value);
     }
     let t = s.ticked(memory, x);
-    let next = t.next;
-    let answer = t.answer;
-    TickDone {
-        next,
-        answer,
-        verdict: Verdict::Done,
+    Done {
+        next: t.next,
+        answer: Ok(t.answer),
     }
 }

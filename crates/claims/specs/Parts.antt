@@ -29,7 +29,7 @@ use Rattle.branch.specs.Branch as branch
 use Rattle.branch.specs.Slots.{words_in}
 use Rattle.branch.specs.declared.Branch.{Branch}
 use Rattle.branch.specs.declared.Phase.TheVariants.{Strobe}
-use Rattle.branch.specs.declared.Slot.{Slot}
+use Rattle.branch.specs.Slots.{Slot}
 use Rattle.supervisor.specs.declared.Supervisor.{Supervisor}
 use Rattle.declines.specs.Calls.{memory_places, memory_after_of}
 

@@ -3,7 +3,7 @@
 -- decline comes first, and what it leaves, is RefusesInOrder, RefusalLeavesRecord and RefusalLeavesMemory there. Demand 3 and
 -- NeverSpoiled are over lists that hold fills too.
 -- Assumes nothing.
-use Rattle.std.specs.Prelude.{◌≡◌, ℕ, ◌^◌, ◌<◌, true, false, List, length, ◌≢◌, slice_index}
+use Rattle.std.specs.Prelude.{◌≡◌, ℕ, ◌^◌, ◌<◌, true, false, List, length, ◌≢◌, IfOk, slice_index}
 use Rattle.registers.specs.Control.{inputs}
 use Rattle.sequencer.specs.MemoryWord.{is_ok_word}
 use Rattle.table.specs.Shipped as shipped
@@ -60,7 +60,7 @@ FilledMemoryAccepts =
 abbrev pub FilledMemoryRejectsNothing : Type 0
 FilledMemoryRejectsNothing =
     (words : List ℕ) (z : Session) → reply_to (fill_memory words) z ≡ done → (x : Inputs) (s : Supervisor)
-    → (tick_of (after (fill_memory words) z).memory x s).answer.masks.rejected ≡ 0
+    → IfOk (tick_of (after (fill_memory words) z).memory x s).answer (λ y. y.masks.rejected ≡ 0)
 
 -- [Table.8a] [Table.8b] The examples of declined fills, as one statement over their table.
 abbrev pub FillExamples : Type 0

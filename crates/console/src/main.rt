@@ -2,52 +2,37 @@
 // output stand here; everything else is `script::answers`, which is proved.
 #![tactic(auto)]
 
-ghost use Rattle.std.specs.Prelude.{◌≡◌, ◌≤◌, length, IfOk};
+ghost use Rattle.std.specs.Prelude.{◌≡◌, IfOk, Ok};
 
+use input::read_all;
+use script::SCRIPT_LIMIT;
 use std::io;
-use std::io::{Read, Write};
-
-// One byte more than the limit is enough to know that a script is longer.
-const INPUT: usize = 65537;
-
-fn input_buffer() -> [u8; INPUT]
-    ensures { 65537 ≡ length result }
-{
-    [0; INPUT]
-}
-
-// [Console.1] reads until the buffer is full, the input ends or a read fails; a read may bring less than was asked for
-fn read_all<R: Read>(input: &mut R, buf: &mut [u8]) -> io::Result<usize>
-    ensures { IfOk result (λ len. len ≤ length buf.new) }
-{
-    let mut at = 0;
-    while at < buf.len() {
-        let n = input.read(&mut buf[at..])?;
-        if n == 0 {
-            return Ok(at);
-        }
-        at += n;
-    }
-    Ok(at)
-}
+use std::io::Write;
 
 // A read or a write that fails is named on standard error.
-fn failed(rt: &HostRuntime, what: &str, error: io::Error) -> io::Result<()> {
-    eprintln!(rt; "{what}: {error}")?;
-    Err(error)
+fn named<T: Drop>(rt: &HostRuntime, what: &str, outcome: io::Result<T>) -> io::Result<T>
+    ensures { IfOk result (λ value. outcome ≡ Ok value) }
+{
+    if let Err(error) = &outcome {
+        eprintln!(rt; "{what}: {error}")?;
+    }
+    outcome
 }
 
+// The buffers and what of them is used, not two vectors: a heap would be one more thing that is trusted (three axioms).
 fn main(rt: HostRuntime) -> io::Result<()> {
-    let mut buf = input_buffer();
-    let mut input = rt.stdin();
-    let len = match read_all(&mut input, &mut buf) {
-        Ok(len) => len,
-        Err(error) => return failed(&rt, "standard input", error),
-    };
+    // [Console.1] one byte more than the limit is enough to know that a script is longer
+    let mut script = [0; SCRIPT_LIMIT + 1];
+    let len = named(
+        &rt,
+        "standard input",
+        read_all(&mut rt.stdin(), &mut script),
+    )?;
     let mut out = script::output_buffer();
-    let printed = script::answers(&buf[..len], &mut out);
-    match rt.stdout().write_all(&out[..printed]) {
-        Ok(()) => Ok(()),
-        Err(error) => failed(&rt, "standard output", error),
-    }
+    let printed = script::answers(&script[..len], &mut out);
+    named(
+        &rt,
+        "standard output",
+        rt.stdout().write_all(&out[..printed]),
+    )
 }

@@ -4,7 +4,7 @@
 --     done_fill                .. and the record, and its words are taken
 --     bad_word_declined        8, where no decline of a memory write applies
 -- Assumes nothing.
-use Rattle.std.proofs.Common.{◌≡◌, ℕ, true, false, not, eqb, List, length, refl, ap, arith, eq-eqb}
+use Rattle.std.proofs.Common.{◌≡◌, ℕ, true, false, not, eqb, List, length, Result, Ok, refl, ap, eq-eqb}
 use borrow.Author.Tests.{not-false}
 use Rattle.bits.proofs.TestLaws.{by_cond}
 use Rattle.table.specs.Table.{are_taken, table_of}
@@ -13,27 +13,26 @@ use Rattle.supervisor.specs.declared.Supervisor.{Supervisor}
 use Rattle.declines.specs.declared.Decline.TheVariants.{Spoiled, Length, Active}
 use Rattle.declines.specs.declared.FillDecline.{FillDecline}
 use Rattle.declines.specs.declared.FillDecline.TheVariants.{Plain, BadWord}
-use Rattle.declines.specs.declared.FillVerdict.TheVariants.{Done}
-use Rattle.declines.specs.declared.FillDone.{FillDone}
+use Rattle.declines.specs.declared.Done.{Done}
 use Rattle.declines.specs.Answers.{declined, done, fill_reply}
-use Rattle.declines.specs.Calls.{memory_places}
-use Rattle.declines.specs.Fill.{refuse_fill, fill_memory_of, unless_fill_declined, memory_filled_of}
+use Rattle.declines.specs.Calls.{memory_places, refuse, unless_declined}
+use Rattle.declines.specs.Fill.{fill_memory_of, memory_filled_of}
 use Rattle.declines.specs.Runs.{fill_memory, ask_of, Session, session, reply_to, after}
 
 -- two ends that are the same leave the same
-by_end : (memory after : List ℕ) {r t : FillDone} → r ≡ t
-    → unless_fill_declined r.answer memory after ≡ unless_fill_declined t.answer memory after
-by_end memory after e = ap (λ (r : FillDone). unless_fill_declined r.answer memory after) e
+by_end : (memory after : List ℕ) {r t : Done (Result Unit FillDecline)} → r ≡ t
+    → unless_declined r.answer memory after ≡ unless_declined t.answer memory after
+by_end memory after e = ap (λ (r : Done (Result Unit FillDecline)). unless_declined r.answer memory after) e
 
 module _ (memory words : List ℕ) (s : Supervisor) where
   -- [Declines.1b]
-  pub refused_fills_nothing : (d : FillDecline) (next : Supervisor) → refuse_fill d next ≡ fill_memory_of memory words s
+  pub refused_fills_nothing : (d : FillDecline) (next : Supervisor) → refuse d next ≡ fill_memory_of memory words s
       → memory ≡ memory_filled_of memory words s
   unfolding memory_filled_of
   refused_fills_nothing d next e = by_end memory _ e
 
   -- [Table.4]
-  pub done_fills : (next : Supervisor) → record { next = next; answer = Done } ≡ fill_memory_of memory words s
+  pub done_fills : (next : Supervisor) → record { next = next; answer = Ok tt } ≡ fill_memory_of memory words s
       → table_of memory_places words ≡ memory_filled_of memory words s
   unfolding memory_filled_of
   done_fills next e = by_end memory (table_of memory_places words) e
@@ -57,14 +56,14 @@ done_fill words z =
     (λ e. by_cond Ends (not (are_taken words)) (λ e. refusal BadWord _)
     (λ e h. record { taken = not-false (are_taken words) e; left = refl }))))
   where
-    Ends : FillDone → Type 0
+    Ends : Done (Result Unit FillDecline) → Type 0
     Ends r =
         fill_reply r.answer ≡ done
         → CarriedOut words z
-        (session r.next (unless_fill_declined r.answer z.memory (table_of memory_places words)))
+        (session r.next (unless_declined r.answer z.memory (table_of memory_places words)))
 
-    refusal : (d : FillDecline) (next : Supervisor) → Ends (refuse_fill d next)
-    refusal d next h = let zero : ◌≡◌ {A = ℕ} 0 1 = cc in absurd (omega arith)
+    refusal : (d : FillDecline) (next : Supervisor) → Ends (refuse d next)
+    refusal d next h = cc
 
 -- [Table.8b]
 pub bad_word_declined : (words memory : List ℕ) (s : Supervisor) → is_spoiled_of s ≡ false → length memory ≡ memory_places

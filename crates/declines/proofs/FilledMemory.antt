@@ -3,7 +3,7 @@
 --     ok_rejects_nothing    a memory of such words, whatever the record and the tick
 --     done_rejects_nothing  so a memory that a fill has left
 -- Assumes nothing.
-use Rattle.std.proofs.Common.{◌≡◌, ℕ, ◌<◌, Bool, true, false, cond, not, ◌&&◌, eqb, List, length, get_or, refl, ap, ◌∙◌, eqb-true}
+use Rattle.std.proofs.Common.{◌≡◌, ℕ, ◌<◌, Bool, true, false, cond, not, ◌&&◌, eqb, List, length, get_or, Result, IfOk, refl, ap, ◌∙◌, eqb-true}
 use borrow.Author.Tests.{eqb-false}
 use Rattle.bits.proofs.TestLaws.{by_cond}
 use Rattle.bits.proofs.BitsLaws.{mask_lt}
@@ -19,11 +19,17 @@ use Rattle.module_core.specs.declared.Core.{Core}
 use Rattle.supervisor.specs.Supervisor.{is_spoiled_of, is_held_of, in_force_of, held_of, core_step_of, joined_of, ran_of, ticked_of}
 use Rattle.supervisor.specs.declared.Supervisor.{Supervisor}
 use Rattle.supervisor.specs.declared.Ticked.{Ticked}
-use Rattle.declines.specs.declared.TickDone.{TickDone}
+use Rattle.supervisor.specs.declared.Answer.{Answer}
+use Rattle.declines.specs.declared.Decline.{Decline}
+use Rattle.declines.specs.declared.Done.{Done}
 use Rattle.declines.specs.Answers.{done}
 use Rattle.declines.specs.Calls.{memory_places, is_out_of_range, tick_of}
 use Rattle.declines.specs.Runs.{fill_memory, Session, reply_to, after}
 use Rattle.declines.proofs.FillLaws.{done_fill}
+
+-- of a tick that is carried out; a declined one has no answer
+abbrev RejectsNothing : Result Answer Decline → Type 0
+RejectsNothing r = IfOk r (λ y. y.masks.rejected ≡ 0)
 
 -- [Memory.2] [Memory.3] at every place but 0
 pub record AcceptsAll (memory : List ℕ) : Type 0 where
@@ -77,16 +83,16 @@ module _ (memory : List ℕ) (ok : AcceptsAll memory) where
       by_cond (λ (t : Ticked). t.answer.masks.rejected ≡ 0) (is_held_of s) (λ e. refl)
       (λ e. step_rejects_none _ _ (in_force_of x s) s.core)
 
-  pub ok_rejects_nothing : (x : Inputs) (s : Supervisor) → (tick_of memory x s).answer.masks.rejected ≡ 0
+  pub ok_rejects_nothing : (x : Inputs) (s : Supervisor) → RejectsNothing (tick_of memory x s).answer
   unfolding tick_of
   ok_rejects_nothing x s =
-      by_cond None (is_spoiled_of s) (λ e. refl)
-      (λ e. by_cond None (not (eqb (length memory) memory_places)) (λ e. refl)
-      (λ e. by_cond None (is_out_of_range x) (λ e. refl) (λ e. ticked_rejects_none x s)))
+      by_cond None (is_spoiled_of s) (λ e. tt)
+      (λ e. by_cond None (not (eqb (length memory) memory_places)) (λ e. tt)
+      (λ e. by_cond None (is_out_of_range x) (λ e. tt) (λ e. ticked_rejects_none x s)))
     where
-      None : TickDone → Type 0
-      None r = r.answer.masks.rejected ≡ 0
+      None : Done (Result Answer Decline) → Type 0
+      None r = RejectsNothing r.answer
 
 pub done_rejects_nothing : (words : List ℕ) (z : Session) → reply_to (fill_memory words) z ≡ done
-    → (x : Inputs) (s : Supervisor) → (tick_of (after (fill_memory words) z).memory x s).answer.masks.rejected ≡ 0
+    → (x : Inputs) (s : Supervisor) → RejectsNothing (tick_of (after (fill_memory words) z).memory x s).answer
 done_rejects_nothing words z e = ok_rejects_nothing (after (fill_memory words) z).memory (done_accepts words z e)

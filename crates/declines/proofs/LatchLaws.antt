@@ -7,7 +7,7 @@
 --     initialize_zeroes_latch
 --     latch_stands          until a read of that scaler with BYTE(3), or INITIALIZE
 -- Assumes nothing.
-use Rattle.std.proofs.Common.{◌≡◌, ℕ, zero, suc, ◌<◌, Bool, true, false, not, eqb, List, [], ◌∷◌, sym, refl, ◌∙◌, arith, eqb-true}
+use Rattle.std.proofs.Common.{◌≡◌, ℕ, zero, suc, ◌<◌, Bool, true, false, not, eqb, List, [], ◌∷◌, Result, sym, refl, ◌∙◌, arith, eqb-true}
 use borrow.Author.Tests.{eqb-false}
 use Rattle.bits.proofs.TestLaws.{and_left, and_right, and_fails, by_cond}
 use Rattle.run.specs.Run.{whole, is_run_of, has_byte3, overlaid_of, cut_of}
@@ -33,7 +33,8 @@ use Rattle.supervisor.specs.Supervisor.{core_step_of}
 use Rattle.supervisor.specs.declared.Supervisor.{Supervisor}
 use Rattle.access.specs.Access.{after_csr_of, csr_written_of, setting_written_of, written_of, base_of, merged_of}
 use Rattle.access.specs.Access.{requested_by, after_read_of, shown_of}
-use Rattle.declines.specs.declared.BytesReadDone.{BytesReadDone}
+use Rattle.declines.specs.declared.BytesDecline.{BytesDecline}
+use Rattle.declines.specs.declared.Done.{Done}
 use Rattle.declines.specs.Answers.{Reply, done, value}
 use Rattle.declines.specs.Calls.{marked_of, write_run_of, read_run_of, write_bytes_of, read_bytes_of}
 use Rattle.declines.specs.Runs.{Ask, write_register, read_register, plain_read, ask_of, call_of, every_ask}
@@ -74,7 +75,7 @@ module _ (s : Supervisor) where
       (λ e. by_cond Rest (not (is_run_of run)) (λ e. refl)
       (λ e. after_read_leaves_rest (numbered_of number) (has_byte3 run))))
     where
-      Rest : BytesReadDone → Type 0
+      Rest : Done (Result ℕ BytesDecline) → Type 0
       Rest r = without_latches r.next ≡ without_latches s
 
   -- [Bytes.5a] a register that is no scaler

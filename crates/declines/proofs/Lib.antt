@@ -1,4 +1,5 @@
 -- The laws, in the order of reading. Assumes nothing.
+pub mod ChoiceLaws
 pub mod CallEnds
 pub mod FollowLaws
 pub mod DeclinesLaws

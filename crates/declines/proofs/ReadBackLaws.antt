@@ -101,8 +101,8 @@ module _ (number : ℕ) (run : Run) (v : ℕ) (s : Supervisor) (eight : EightPla
 
     end_reads_back : {memory : List ℕ} {reply : Reply} {next : Supervisor}
         → End memory s (write_register number run v) reply next → reply ≡ done → shown_of (numbered_of number) next ≡ after
-    end_reads_back (refused a n h) e = let z : ◌≡◌ {A = ℕ} 0 1 = cc in absurd (omega arith)
-    end_reads_back (refused_active a) e = let z : ◌≡◌ {A = ℕ} 0 1 = cc in absurd (omega arith)
+    end_reads_back (refused a n h) e = cc
+    end_reads_back (refused_active a) e = cc
     end_reads_back (wrote _ _ _ valid) e =
         register_read_back s eight (has_byte3 run) (merged_of (numbered_of number) run v s) (numbered_of number)
         (numbered_is_in_range number) kept valid

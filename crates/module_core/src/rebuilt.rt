@@ -1,4 +1,4 @@
-// The same core, field by field: the bytes between its fields are not copied, which saves time.
+// The same core, field by field: the bytes between its fields are not copied, which saves time (supervisor, `rebuilt`, has the figures).
 ghost use Rattle.std.specs.Prelude.{◌≡◌};
 
 use crate::Core;

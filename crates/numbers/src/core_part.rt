@@ -1,8 +1,5 @@
 // The core's numbers: each field is read and written in this file alone, part by part.
-use crate::{
-    bool_at, byte_at, eight_at, number_at, put, put_eight, short_at, wide, wide_bool, wide_eight,
-    wide8, wide16, word_at,
-};
+use crate::{bool_at, byte_at, eight_at, number_at, put, put_eight, short_at, word_at};
 use module_core::Core;
 use prescaler::Prescalers;
 use registers::control::Control;
@@ -57,28 +54,23 @@ pub fn core_in(numbers: &[u64]) -> Core {
 }
 
 pub fn put_core(out: &mut [u64], core: Core) {
-    let prescalers = core.prescalers;
-    let scalers = core.scalers;
-    let main = core.main;
-    let timers = core.timers;
-    let sync = core.sync;
     put_single(out, core);
-    put_prescalers(out, prescalers);
-    put_scalers(out, scalers);
-    put_eight(out, 28, main_numbers(main));
-    put_timers(out, timers);
-    put_sync(out, sync);
+    put_prescalers(out, core.prescalers);
+    put_scalers(out, core.scalers);
+    put_main(out, core.main);
+    put_timers(out, core.timers);
+    put_sync(out, core.sync);
 }
 
 // the fields of one number each
 fn put_single(out: &mut [u64], core: Core) {
-    put(out, 0, wide(core.csr.word));
-    put(out, 1, wide(core.control.word));
-    put(out, 37, wide_bool(core.user.waiting));
-    put(out, 50, wide8(core.blind.count));
-    put(out, 51, wide(core.latest.lines.word));
-    put(out, 52, wide_bool(core.latest.latched));
-    put(out, 56, wide(core.test.word));
+    put(out, 0, core.csr.word);
+    put(out, 1, core.control.word);
+    put(out, 37, core.user.waiting);
+    put(out, 50, core.blind.count);
+    put(out, 51, core.latest.lines.word);
+    put(out, 52, core.latest.latched);
+    put(out, 56, core.test.word);
 }
 
 // ---- the prescalers: 2–9, 20–27
@@ -91,10 +83,8 @@ fn prescalers_in(numbers: &[u64]) -> Prescalers {
 }
 
 fn put_prescalers(out: &mut [u64], prescalers: Prescalers) {
-    let factors = prescalers.factors;
-    let counters = prescalers.counters;
-    put_eight(out, 2, wide_eight(factors));
-    put_eight(out, 20, wide_eight(counters));
+    put_eight(out, 2, prescalers.factors.map(|n| u64::from(n)));
+    put_eight(out, 20, prescalers.counters.map(|n| u64::from(n)));
 }
 
 // ---- the sync count: 11, 36
@@ -107,8 +97,8 @@ fn sync_in(numbers: &[u64]) -> SyncCounter {
 }
 
 fn put_sync(out: &mut [u64], sync: SyncCounter) {
-    put(out, 11, wide16(sync.interval));
-    put(out, 36, wide16(sync.count));
+    put(out, 11, sync.interval);
+    put(out, 36, sync.count);
 }
 
 // ---- the timers: 12–16
@@ -124,11 +114,11 @@ fn timers_in(numbers: &[u64]) -> Timers {
 }
 
 fn put_timers(out: &mut [u64], timers: Timers) {
-    put(out, 12, wide16(timers.t1.0));
-    put(out, 13, wide16(timers.t2.0));
-    put(out, 14, wide16(timers.t3.0));
-    put(out, 15, wide16(timers.t4.0));
-    put(out, 16, wide8(timers.t5.0));
+    put(out, 12, timers.t1.0);
+    put(out, 13, timers.t2.0);
+    put(out, 14, timers.t3.0);
+    put(out, 15, timers.t4.0);
+    put(out, 16, timers.t5.0);
 }
 
 // ---- the scalers: 17–19, 54, 55
@@ -144,15 +134,16 @@ fn scalers_in(numbers: &[u64]) -> Scalers {
 }
 
 fn put_scalers(out: &mut [u64], scalers: Scalers) {
-    put(out, 17, wide(scalers.scaler0));
-    put(out, 18, wide(scalers.scaler1));
-    put(out, 19, wide(scalers.assign));
-    put(out, 54, wide(scalers.latch0));
-    put(out, 55, wide(scalers.latch1));
+    put(out, 17, scalers.scaler0);
+    put(out, 18, scalers.scaler1);
+    put(out, 19, scalers.assign);
+    put(out, 54, scalers.latch0);
+    put(out, 55, scalers.latch1);
 }
 
 // ---- main: 28–35
 
+// no TryFrom: every number of a record stands for a state
 fn state_of(n: u64) -> State {
     match n {
         0 => State::Idle,
@@ -163,19 +154,6 @@ fn state_of(n: u64) -> State {
         5 => State::Space,
         6 => State::SyncHold,
         _ => State::Clear,
-    }
-}
-
-fn state_number(state: State) -> u64 {
-    match state {
-        State::Idle => 0,
-        State::Delay => 1,
-        State::Wait2 => 2,
-        State::Wait3 => 3,
-        State::Front => 4,
-        State::Space => 5,
-        State::SyncHold => 6,
-        State::Clear => 7,
     }
 }
 
@@ -192,16 +170,13 @@ fn main_in(numbers: &[u64]) -> MainSequencer {
     }
 }
 
-fn main_numbers(main: MainSequencer) -> [u64; 8] {
-    let state = main.state;
-    [
-        state_number(state),
-        wide(main.age),
-        wide8(main.clear),
-        wide8(main.class),
-        wide8(main.code),
-        wide8(main.accept),
-        wide8(main.raised),
-        wide_bool(main.late),
-    ]
+fn put_main(out: &mut [u64], main: MainSequencer) {
+    put(out, 28, main.state as u64);
+    put(out, 29, main.age);
+    put(out, 30, main.clear);
+    put(out, 31, main.class);
+    put(out, 32, main.code);
+    put(out, 33, main.accept);
+    put(out, 34, main.raised);
+    put(out, 35, main.late);
 }

@@ -6,6 +6,7 @@
 
 use core_part::{core_in, put_core};
 use readout_part::{put_readout, readout_in};
+use std::array;
 use supervisor::Supervisor;
 
 mod core_part;
@@ -29,7 +30,7 @@ pub fn put_record(out: &mut [u64], s: Supervisor) {
 
 // ---- a number in, by its place
 
-// The number at a place, 0 past the end.
+// The number at a place, 0 past the end. By `get` the wrong machine `one_number_past_the_end` could not be said.
 pub fn number_at(numbers: &[u64], place: usize) -> u64 {
     if place < numbers.len() {
         return numbers[place];
@@ -37,6 +38,7 @@ pub fn number_at(numbers: &[u64], place: usize) -> u64 {
     0
 }
 
+// Three functions, since a cast has no type parameter.
 fn word_at(numbers: &[u64], place: usize) -> u32 {
     (number_at(numbers, place) % 4294967296) as u32
 }
@@ -55,66 +57,26 @@ fn bool_at(numbers: &[u64], place: usize) -> bool {
 
 fn eight_at(numbers: &[u64], place: usize) -> [u32; 8] {
     let first = place % 4294967296;
-    [
-        word_at(numbers, first),
-        word_at(numbers, first + 1),
-        word_at(numbers, first + 2),
-        word_at(numbers, first + 3),
-        word_at(numbers, first + 4),
-        word_at(numbers, first + 5),
-        word_at(numbers, first + 6),
-        word_at(numbers, first + 7),
-    ]
+    array::from_fn(|i| word_at(numbers, first + i))
 }
 
 // ---- a number out
 
-pub fn wide(n: u32) -> u64 {
-    n as u64
-}
-
-fn wide16(n: u16) -> u64 {
-    n as u64
-}
-
-fn wide8(n: u8) -> u64 {
-    n as u64
-}
-
-fn wide_bool(b: bool) -> u64 {
-    wide(bits::one_if(b))
-}
-
-fn wide_eight(n: [u32; 8]) -> [u64; 8] {
-    [
-        wide(n[0]),
-        wide(n[1]),
-        wide(n[2]),
-        wide(n[3]),
-        wide(n[4]),
-        wide(n[5]),
-        wide(n[6]),
-        wide(n[7]),
-    ]
-}
-
 // Stores as far as the slice goes.
-fn put(out: &mut [u64], place: usize, n: u64) {
+fn put<N: Into<u64> + Drop>(out: &mut [u64], place: usize, n: N) {
     if place < out.len() {
-        out[place] = n;
+        out[place] = n.into();
     }
 }
 
-fn put_four(out: &mut [u64], place: usize, a: u64, b: u64, c: u64, d: u64) {
+// Numbers in a row, from a place on.
+fn put_all(out: &mut [u64], place: usize, numbers: &[u64]) {
     let first = place % 4294967296;
-    put(out, first, a);
-    put(out, first + 1, b);
-    put(out, first + 2, c);
-    put(out, first + 3, d);
+    for (i, n) in numbers.iter().enumerate() {
+        put(out, first.saturating_add(i), *n);
+    }
 }
 
 pub fn put_eight(out: &mut [u64], place: usize, n: [u64; 8]) {
-    let first = place % 4294967296;
-    put_four(out, first, n[0], n[1], n[2], n[3]);
-    put_four(out, first + 4, n[4], n[5], n[6], n[7]);
+    put_all(out, place, &n);
 }

@@ -1,5 +1,5 @@
 // The readout's numbers: each field is read and written in this file alone.
-use crate::{number_at, put, wide, word_at};
+use crate::{number_at, put, word_at};
 use branch::{Branch, Phase};
 use branches::Readout;
 
@@ -18,8 +18,8 @@ pub fn readout_in(numbers: &[u64]) -> Readout {
 
 pub fn put_readout(out: &mut [u64], readout: Readout) {
     let bs = readout.branches;
-    put(out, 10, wide(readout.roc));
-    put(out, 53, wide(readout.acks));
+    put(out, 10, readout.roc);
+    put(out, 53, readout.acks);
     put_branch(out, 38, bs[0]);
     put_branch(out, 41, bs[1]);
     put_branch(out, 44, bs[2]);
@@ -28,19 +28,12 @@ pub fn put_readout(out: &mut [u64], readout: Readout) {
 
 // ---- a branch: words, length, phase
 
+// no TryFrom: every number of a record stands for a phase
 fn phase_of(n: u64) -> Phase {
     match n {
         0 => Phase::Rest,
         1 => Phase::Strobe,
         _ => Phase::Drop,
-    }
-}
-
-fn phase_number(phase: Phase) -> u64 {
-    match phase {
-        Phase::Rest => 0,
-        Phase::Strobe => 1,
-        Phase::Drop => 2
     }
 }
 
@@ -55,8 +48,7 @@ fn branch_at(numbers: &[u64], place: usize) -> Branch {
 
 fn put_branch(out: &mut [u64], place: usize, b: Branch) {
     let first = place % 4294967296;
-    let phase = b.phase;
     put(out, first, b.words);
-    put(out, first + 1, wide(b.len));
-    put(out, first + 2, phase_number(phase));
+    put(out, first + 1, b.len);
+    put(out, first + 2, b.phase as u64);
 }

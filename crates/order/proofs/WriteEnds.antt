@@ -7,7 +7,7 @@
 --     EndsBy, write_ends   every such write ends so
 -- Assumes nothing.
 use Rattle.std.specs.Prelude.{if◌then◌else◌}
-use Rattle.std.proofs.Common.{◌≡◌, ℕ, Bool, true, false, cond, not, ◌&&◌, eqb, leb, length, set, refl, arith}
+use Rattle.std.proofs.Common.{◌≡◌, ℕ, Bool, true, false, cond, not, ◌&&◌, eqb, leb, length, set, Result, refl, arith}
 use borrow.Author.Tests.{not-false}
 use Rattle.run.specs.Run.{is_run_of, has_byte3}
 use Rattle.run.specs.declared.Run.{Run}
@@ -18,9 +18,10 @@ use Rattle.supervisor.specs.Supervisor.{is_active_of, is_spoiled_of}
 use Rattle.supervisor.specs.declared.Supervisor.{Supervisor}
 use Rattle.access.specs.Access.{merged_of, written_of}
 use Rattle.declines.specs.Answers.{Reply, declined, done, verdict_reply, bytes_verdict_reply}
-use Rattle.declines.specs.declared.WriteDone.{WriteDone}
-use Rattle.declines.specs.declared.BytesWriteDone.{BytesWriteDone}
-use Rattle.declines.specs.Calls.{memory_places, marked_of, is_guarded_of, bytes_write_of, unless_declined}
+use Rattle.declines.specs.declared.Decline.{Decline}
+use Rattle.declines.specs.declared.BytesDecline.{BytesDecline}
+use Rattle.declines.specs.declared.Done.{Done}
+use Rattle.declines.specs.Calls.{memory_places, marked_of, is_guarded_of, by_bytes_of, unless_declined}
 use Rattle.declines.specs.Calls.{write_run_of, write_bytes_of, write_memory_of, memory_after_of}
 use Rattle.declines.specs.Refusals.{refusals_of, first_of}
 use Rattle.declines.specs.Runs.{Ask, write_register, read_register, write_memory, read_memory, fill_memory, tick}
@@ -118,11 +119,11 @@ module _ (z : Session) where
       valid : Bool
       valid = is_valid_value (numbered_of n) (merged n run v s)
 
-      Ends : BytesWriteDone → ℕ → Type 0
+      Ends : Done (Result Unit BytesDecline) → ℕ → Type 0
       Ends r k = EndsBy (write_register n run v) z (bytes_verdict_reply r.answer) (session r.next z.memory) k
 
-      Rest : WriteDone → ℕ → Type 0
-      Rest r k = Ends (bytes_write_of r) k
+      Rest : Done (Result Unit Decline) → ℕ → Type 0
+      Rest r k = Ends (by_bytes_of r) k
 
   memory_ends : (p word : ℕ)
       → EndsBy (write_memory p word) z (reply_to (write_memory p word) z) (after (write_memory p word) z)
@@ -135,7 +136,7 @@ module _ (z : Session) where
       (λ e. by_test Ends (is_active_of s) (declines 4 (λ e. omega arith) refl refl)
       (λ e. record { reply = refl; next = refl; takes = λ h. tt }))))
     where
-      Ends : WriteDone → ℕ → Type 0
+      Ends : Done (Result Unit Decline) → ℕ → Type 0
       Ends r k =
           EndsBy (write_memory p word) z (verdict_reply r.answer)
           (session r.next (unless_declined r.answer z.memory (set z.memory p word))) k

@@ -5,15 +5,16 @@
 
 use branch::{Branch, Slot};
 use branches::{Readout, Side};
-use declines::Verdict;
+use declines::Decline;
 use module_core::Core;
-use numbers::{number_at, wide};
+use numbers::number_at;
 use prescaler::Prescalers;
 use registers::control::Control;
 use registers::csr::Csr;
 use scalers::Scalers;
 use sequencer::main_sequencer::MainSequencer;
 use sequencer::states::Outcome;
+use std::array;
 use supervisor::{Answer, Supervisor};
 use sync::counter::SyncCounter;
 use sync::user::UserSync;
@@ -40,16 +41,7 @@ fn count40(value: u32) -> Count40 {
 }
 
 fn factors_in(table: &[u64]) -> Prescalers {
-    let factors = [
-        register_at(table, 2),
-        register_at(table, 3),
-        register_at(table, 4),
-        register_at(table, 5),
-        register_at(table, 6),
-        register_at(table, 7),
-        register_at(table, 8),
-        register_at(table, 9),
-    ];
+    let factors = array::from_fn(|i| register_at(table, 2 + i));
     Prescalers {
         counters: factors,
         factors,
@@ -121,34 +113,24 @@ fn fold(sum: u64, n: u64) -> u64 {
 }
 
 fn slot_number(slot: Slot) -> u64 {
-    match slot {
-        Slot::Nothing => 255,
-        Slot::Word(w) => w as u64
-    }
+    slot.map_or(255, |word| u64::from(word))
 }
 
 fn outcome_number(outcome: Outcome) -> u64 {
     match outcome {
         Outcome::Nothing => 0,
         Outcome::Cleared => 1,
-        Outcome::Event(w) => 2 | (w as u64) << 2,
-        Outcome::Tag(w) => 3 | (w as u64) << 2
-    }
-}
-
-fn verdict_number(verdict: Verdict) -> u64 {
-    match verdict {
-        Verdict::Done => 0,
-        Verdict::Declined(_) => 1
+        Outcome::Event(w) => 2 | u64::from(w) << 2,
+        Outcome::Tag(w) => 3 | u64::from(w) << 2
     }
 }
 
 fn masks_number(m: Masks) -> u64 {
-    wide(m.stopped)
-        | wide(m.scaled) << 12
-        | wide(m.lost) << 24
-        | wide(m.rejected) << 36
-        | wide(m.accepted) << 48
+    u64::from(m.stopped)
+        | u64::from(m.scaled) << 12
+        | u64::from(m.lost) << 24
+        | u64::from(m.rejected) << 36
+        | u64::from(m.accepted) << 48
 }
 
 fn side_number(side: Side) -> u64 {
@@ -158,6 +140,7 @@ fn side_number(side: Side) -> u64 {
 }
 
 fn sides_number(sides: [Side; 4]) -> u64 {
+    // bound one by one, as in branches: this is in the loop that is measured
     let s0 = sides[0];
     let s1 = sides[1];
     let s2 = sides[2];
@@ -165,28 +148,35 @@ fn sides_number(sides: [Side; 4]) -> u64 {
     side_number(s0) | side_number(s1) << 16 | side_number(s2) << 32 | side_number(s3) << 48
 }
 
-fn folded(sum: u64, answer: Answer, verdict: Verdict) -> u64 {
-    let masks = answer.masks;
-    let outcome = answer.outcome;
-    let sides = answer.sides;
-    let lines = wide(answer.lines) | outcome_number(outcome) << 16 | verdict_number(verdict) << 32;
-    fold(
-        fold(fold(sum, masks_number(masks)), lines),
-        sides_number(sides),
-    )
+// The lines and the outcome of a declined tick, and its words: an answer of nothing, with the bit above the outcome set.
+const DECLINED: u64 = 4294967296;
+
+const NO_WORDS: u64 = 18446744073709551615;
+
+fn folded(sum: u64, answer: Result<Answer, Decline>) -> u64 {
+    match answer {
+        Ok(a) => {
+            let lines = u64::from(a.lines) | outcome_number(a.outcome) << 16;
+            fold(
+                fold(fold(sum, masks_number(a.masks)), lines),
+                sides_number(a.sides),
+            )
+        }
+        Err(_) => fold(fold(fold(sum, 0), DECLINED), NO_WORDS),
+    }
 }
 
 // Scalers, CSR, sync count, what is kept of the latest tick, the latches and what waits of TEST, of the last record.
 fn closed(sum: u64, s: Supervisor) -> u64 {
     let core = s.core;
-    let scalers = wide(core.scalers.scaler0) | wide(core.scalers.scaler1) << 32;
-    let rest = wide(core.csr.word) | (core.sync.count as u64) << 32;
+    let scalers = u64::from(core.scalers.scaler0) | u64::from(core.scalers.scaler1) << 32;
+    let rest = u64::from(core.csr.word) | u64::from(core.sync.count) << 32;
     let latest = core.latest;
-    let kept = wide(latest.lines.word)
-        | wide(bits::one_if(latest.latched)) << 8
-        | wide(s.readout.acks) << 32;
-    let latches = wide(core.scalers.latch0) | wide(core.scalers.latch1) << 32;
-    let test = wide(core.test.word);
+    let kept = u64::from(latest.lines.word)
+        | u64::from(latest.latched) << 8
+        | u64::from(s.readout.acks) << 32;
+    let latches = u64::from(core.scalers.latch0) | u64::from(core.scalers.latch1) << 32;
+    let test = u64::from(core.test.word);
     fold(
         fold(fold(fold(fold(sum, scalers), rest), kept), latches),
         test,
@@ -210,15 +200,13 @@ pub extern "C" fn run_ticks(n: u64, memory: &[u16], table: &[u64]) -> u64 {
     }
     let mut s = record_in(table);
     let mut sum: u64 = 0;
-    let mut i: u64 = 0;
-    while i < n {
+    for i in 0..n {
         let packed = number_at(table, (i % 16384) as usize);
         let r = calls::tick(s, memory, inputs_in(packed));
         let answer = r.answer;
-        let verdict = r.verdict;
+        // the record before the sum: the other way round a tick takes 34 instructions more
         s = r.next;
-        sum = folded(sum, answer, verdict);
-        i += 1;
+        sum = folded(sum, answer);
     }
     closed(sum, s)
 }

@@ -4,6 +4,7 @@
 --     passed_by_choices     with no pulse on inputs 1–8 a bank that runs stays, and every pulse passes, for `step`
 --     nothing_by_choices    with no pulse at all a bank stays, for the core
 --     counted_by_choices    eight counters and one mask are the step of a bank that runs, for `counted_down`
+--     fit_by_halves         the widths of the first four numbers and of the last four are those of all, for `all_fit`
 --     scaled_by_digits      eight numbers make the mask of its scaled pulses, for `scaled_of`
 -- Assumes nothing.
 use Rattle.std.specs.Prelude.{if◌then◌else◌}
@@ -12,16 +13,20 @@ use mathlib.Core.Path.{◌≡◌, refl, sym, ap, ◌∙◌}
 use mathlib.Core.Bool.{Bool, true, false, not, ◌&&◌, ◌||◌}
 use mathlib.Core.List.{List}
 use native.Mathlib.Omega.{arith}
-use lib.Dec.{eqb, ltb, lit≤}
+use lib.Dec.{eqb, ltb, lit≤, lit<}
+use lib.ListN.{length, get_or}
+use Rattle.std.specs.Prelude.{take, drop}
+use Rattle.std.specs.List.{list_all}
+use Rattle.std.proofs.lemmas.List.{get_or-take, get_or-drop, length-take-le, length-drop}
+use Rattle.bits.proofs.ListLaws.{all_at, tabulated}
 use borrow.Author.Tests.{ltb-true, ltb-false, lt-ltb, le-leb, lt-leb}
 use Rattle.bits.specs.Notation.{◌▷◌}
-use Rattle.bits.specs.Bits.{bit_at, one_if_of, mask_of, tabulate, clear_of}
+use Rattle.bits.specs.Bits.{bit_at, every, one_if_of, mask_of, tabulate, clear_of}
 use Rattle.bits.proofs.BitsLaws.{zero_at, low_at, mask_same, mask_none, mask_of_bits, mask_wider, clear_mask}
-use Rattle.bits.proofs.BitsLaws.{tabulate_same}
-use Rattle.prescaler.specs.PrescalerFields.{with_counters, counter_at, factor_at}
+use Rattle.prescaler.specs.PrescalerFields.{with_counters, counter_at}
 use Rattle.registers.specs.Control.{inputs}
-use Rattle.prescaler.specs.Prescaler.{prescaled_inputs, fate_of, counter_after, FateFacts, facts_of}
-use Rattle.prescaler.specs.Prescaler.{is_at_zero, fate_at, counter_after_at, step_of, scaled_of, EightPlaces}
+use Rattle.prescaler.specs.Prescaler.{prescaled_inputs, fate_of, running_counter, FateFacts, facts_of}
+use Rattle.prescaler.specs.Prescaler.{is_at_zero, fate_at, counter_after_at, step_of, scaled_of, all_fit_of, EightPlaces}
 use Rattle.prescaler.specs.declared.Prescalers.{Prescalers}
 use Rattle.prescaler.specs.declared.Prescaled.{Prescaled}
 use Rattle.prescaler.proofs.PrescalerLaws.{fact_at, bank_stays, stopped_keeps_bank}
@@ -37,12 +42,6 @@ all_stopped pulses b = prescaled b (pulses % 2 ^ inputs) 0 0
 
 abbrev pub all_passed : (pulses : ℕ) → Prescalers → Prescaled
 all_passed pulses b = prescaled b 0 0 (pulses % 2 ^ inputs)
-
--- eight counters, each after its pulse
-abbrev pub counters_after : (pulses : ℕ) → Prescalers → List ℕ
-counters_after pulses b =
-    tabulate prescaled_inputs
-    (λ i. counter_after (fate_of (bit_at pulses i) true (eqb (counter_at b i) 0)) (counter_at b i) (factor_at b i))
 
 abbrev pub counted : (counters : List ℕ) (scaled pulses : ℕ) → Prescalers → Prescaled
 counted counters scaled pulses b =
@@ -161,21 +160,27 @@ module _ (pulses : ℕ) (b : Prescalers) where
       ∙ mask_same inputs (λ i. bit_at pulses i && not (scaled_at i)) passed_at
       (λ i h. running_rest_passed (bit_at pulses i) (is_at_zero b i))
 
-  eight_are_all_counters : counters_after pulses b ≡ tabulate prescaled_inputs (counter_after_at true pulses b)
-  eight_are_all_counters =
-      tabulate_same prescaled_inputs
-      (λ i. counter_after (fate_of (bit_at pulses i) true (eqb (counter_at b i) 0)) (counter_at b i) (factor_at b i))
-      (counter_after_at true pulses b) (λ i h. rw (lt-leb prescaled_inputs i h))
+  eight_are_all_counters : (counters : List ℕ) → length counters ≡ prescaled_inputs
+      → ((i : ℕ) → i < prescaled_inputs → get_or counters i 0 ≡ running_counter pulses b i)
+      → counters ≡ tabulate prescaled_inputs (counter_after_at true pulses b)
+  eight_are_all_counters counters long each =
+      tabulated prescaled_inputs (counter_after_at true pulses b) 0 counters long
+      (λ i h. each i h ∙ rw (lt-leb prescaled_inputs i h) refl)
 
-  counted_is_step : counted (counters_after pulses b) (scaled_of pulses b) pulses b ≡ step_of true pulses b
+  abbrev all_counters : List ℕ
+  all_counters = tabulate prescaled_inputs (counter_after_at true pulses b)
+
+  counted_is_step : counted all_counters (scaled_of pulses b) pulses b ≡ step_of true pulses b
   unfolding step_of
   counted_is_step =
       let passed = ap (λ (m : ℕ). clear_of m (pulses % 2 ^ inputs)) eight_are_all_scaled ∙ rest_passes in
-      λ j. prescaled (b ▷ with_counters (eight_are_all_counters j)) (none_stopped j) (eight_are_all_scaled j) (passed j)
+      λ j. prescaled (b ▷ with_counters all_counters) (none_stopped j) (eight_are_all_scaled j) (passed j)
 
-  pub counted_by_choices : {counters : List ℕ} {scaled : ℕ} → counters ≡ counters_after pulses b
+  pub counted_by_choices : {counters : List ℕ} {scaled : ℕ} → length counters ≡ prescaled_inputs
+      → ((i : ℕ) → i < prescaled_inputs → get_or counters i 0 ≡ running_counter pulses b i)
       → scaled ≡ scaled_of pulses b → counted counters scaled pulses b ≡ step_of true pulses b
-  counted_by_choices e k = (λ j. counted (e j) (k j) pulses b) ∙ counted_is_step
+  counted_by_choices {counters} long each k =
+      (λ j. counted (eight_are_all_counters counters long each j) (k j) pulses b) ∙ counted_is_step
 
 -- ---- its mask of scaled pulses, as a sum of eight numbers
 
@@ -215,3 +220,41 @@ scaled_by_digits pulses b =
       digit_is_scaled pulses b 7 (lit≤ tt),
     )
     (omega arith)
+
+-- ---- the widths of eight numbers, by halves
+
+and_joined : (a b c d : Bool) (rest : Bool) → ((a && (b && (c && (d && true)))) && rest) ≡ (a && (b && (c && (d && rest))))
+and_joined false b c d rest = refl
+and_joined true false c d rest = refl
+and_joined true true false d rest = refl
+and_joined true true true false rest = refl
+and_joined true true true true rest = refl
+
+-- the first four numbers of a list, one by one
+module _ (test : ℕ → Bool) (l : List ℕ) (long : 4 ≤ length l) where
+  four_taken : list_all test (take 4 l)
+      ≡ (test (get_or l 0 0) && (test (get_or l 1 0) && (test (get_or l 2 0) && (test (get_or l 3 0) && true))))
+  unfolding every
+  four_taken =
+      all_at test 4 (take 4 l) (length-take-le 4 l long)
+      ∙ rw (
+        get_or-take 4 l 0 0 (lit< tt),
+        get_or-take 4 l 1 0 (lit< tt),
+        get_or-take 4 l 2 0 (lit< tt),
+        get_or-take 4 l 3 0 (lit< tt),
+      ) refl
+
+pub fit_by_halves : (values : List ℕ) → length values ≡ 8
+    → (list_all (λ v. ltb v (2 ^ 20)) (take 4 values) && list_all (λ v. ltb v (2 ^ 14)) (take 4 (drop 4 values)))
+    ≡ all_fit_of values
+unfolding all_fit_of every
+fit_by_halves values h =
+    let low : ℕ → Bool = λ i. ltb (get_or values i 0) (2 ^ 20) in
+    rw (
+      four_taken (λ v. ltb v (2 ^ 20)) values (omega arith),
+      four_taken (λ v. ltb v (2 ^ 14)) (drop 4 values) (rw (length-drop 4 values, h) (lit≤ tt)),
+      get_or-drop 4 values 0 0,
+      get_or-drop 4 values 1 0,
+      get_or-drop 4 values 2 0,
+      get_or-drop 4 values 3 0,
+    ) (and_joined (low 0) (low 1) (low 2) (low 3) _)

@@ -97,6 +97,11 @@ fate_at runs pulses b i = fate_of (bit_at pulses i) runs (is_at_zero b i)
 abbrev pub counter_after_at : (runs : Bool) (pulses : ℕ) → Prescalers → (i : ℕ) → ℕ
 counter_after_at runs pulses b i = counter_after (fate_at runs pulses b i) (counter_at b i) (factor_at b i)
 
+-- the counter of input i + 1, one of those that have one, in a bank that runs
+abbrev pub running_counter : (pulses : ℕ) → Prescalers → (i : ℕ) → ℕ
+running_counter pulses b i =
+    counter_after (fate_of (bit_at pulses i) true (eqb (counter_at b i) 0)) (counter_at b i) (factor_at b i)
+
 -- runs: GO or OPEN PRESCALES is set; pulses: the counted ones
 unfoldable pub step_of : (runs : Bool) (pulses : ℕ) → Prescalers → Prescaled
 step_of runs pulses b =

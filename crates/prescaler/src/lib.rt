@@ -2,14 +2,17 @@
 // The bank goes in by value and comes back. Every contract is an equality with a definition of specs/.
 #![tactic(auto)]
 
-ghost use Rattle.std.specs.Prelude.{◌≡◌, true, ◌≤◌, eqb, if◌then◌else◌};
+ghost use Rattle.std.specs.Prelude.{◌≡◌, true, ℕ, ◌≤◌, ◌<◌, eqb, ltb, slice_index_or, if◌then◌else◌};
+ghost use Rattle.std.specs.List.{list_all};
 ghost use Rattle.prescaler.specs.Prescaler.{fresh_of, with_factor_of, factor_of, reloaded_of};
-ghost use Rattle.prescaler.specs.Prescaler.{fate_of, counter_after, scaled_of, step_of};
+ghost use Rattle.prescaler.specs.Prescaler.{prescaled_inputs, fate_of, counter_after, running_counter, scaled_of, step_of};
 ghost use Rattle.prescaler.specs.Prescaler.{all_fit_of, has_counters_within_of, has_valid_factors_of};
 
 use registers::register::Register;
+use std::array;
 
-// Place i is input i + 1.
+// Place i is input i + 1. Two arrays and not eight pairs: RESET makes one of the other ([CSRWrite.2d]), [Spoiled.1a] and [Bytes.9]
+// speak of one of them each.
 #[derive(Clone, Copy)]
 pub struct Prescalers {
     pub counters: [u32; 8],
@@ -126,29 +129,24 @@ impl Prescalers {
             + 128 * scaled(pulses / 128 % 2, c[7])
     }
 
-    // All eight prescalers, each by itself: a loop over the pulses that are there would be slower.
-    fn counted_down(self, pulses: u32) -> Prescaled
-        ensures { result ≡ step_of true pulses self }
+    // [Pulses.3] [Pulses.4] every counter of a bank that runs, each by itself
+    fn counters_after(self, pulses: u32) -> [u32; 8]
+        ensures { (i : ℕ) → i < prescaled_inputs → slice_index_or result i 0 ≡ running_counter pulses self i }
     {
         let c = self.counters;
         let f = self.factors;
-        let counters = [
-            counter_after(pulses / 1 % 2 == 1, c[0], f[0]),
-            counter_after(pulses / 2 % 2 == 1, c[1], f[1]),
-            counter_after(pulses / 4 % 2 == 1, c[2], f[2]),
-            counter_after(pulses / 8 % 2 == 1, c[3], f[3]),
-            counter_after(pulses / 16 % 2 == 1, c[4], f[4]),
-            counter_after(pulses / 32 % 2 == 1, c[5], f[5]),
-            counter_after(pulses / 64 % 2 == 1, c[6], f[6]),
-            counter_after(pulses / 128 % 2 == 1, c[7], f[7]),
-        ];
+        array::from_fn(|i| counter_after((pulses >> i) % 2 == 1, c[i], f[i]))
+    }
+
+    // All eight prescalers: a loop over the pulses that are there would be slower.
+    fn counted_down(self, pulses: u32) -> Prescaled
+        ensures { result ≡ step_of true pulses self }
+    {
+        let factors = self.factors;
+        let counters = self.counters_after(pulses);
         let scaled = self.scaled_of(pulses);
-        let next = Prescalers {
-            counters,
-            factors: f,
-        };
         Prescaled {
-            next,
+            next: Prescalers { counters, factors },
             stopped: 0,
             scaled,
             passed: bits::clear(pulses % Prescalers::INPUTS_LIMIT, scaled),
@@ -196,17 +194,16 @@ impl Prescalers {
     }
 }
 
-// [Widths.1] each of eight numbers fits the width of its input's factor
+fn are_below(values: &[u32], limit: u32) -> bool
+    ensures { result ≡ list_all (λ value. ltb value limit) values.now }
+{
+    values.iter().all(|value| *value < limit)
+}
+
+// [Widths.1] each of eight numbers fits the width of its input's factor: inputs 1–4, and 5–8
 fn all_fit(values: [u32; 8]) -> bool
     ensures { result ≡ all_fit_of values }
 {
-    let fits0 = values[0] < Register::LOW_FACTOR_LIMIT;
-    let fits1 = values[1] < Register::LOW_FACTOR_LIMIT;
-    let fits2 = values[2] < Register::LOW_FACTOR_LIMIT;
-    let fits3 = values[3] < Register::LOW_FACTOR_LIMIT;
-    let fits4 = values[4] < Register::HIGH_FACTOR_LIMIT;
-    let fits5 = values[5] < Register::HIGH_FACTOR_LIMIT;
-    let fits6 = values[6] < Register::HIGH_FACTOR_LIMIT;
-    let fits7 = values[7] < Register::HIGH_FACTOR_LIMIT;
-    fits0 & (fits1 & (fits2 & (fits3 & (fits4 & (fits5 & (fits6 & (fits7 & true)))))))
+    are_below(&values[..4], Register::LOW_FACTOR_LIMIT)
+        & are_below(&values[4..], Register::HIGH_FACTOR_LIMIT)
 }

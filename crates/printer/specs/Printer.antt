@@ -1,19 +1,22 @@
 -- How an answer is printed.
 --     document 01     "Console program"
 --     reply_text       the bytes of a reply, newline included; a value gets the digits of its width
+--     refusal_number   the number that comes after `no`
 --     fields_of        the fifteen fields of a tick's answer
 --     spaced          fields with one space between
 -- Own rules of 01 used here: none. Decisions: none. Left out: nothing.
 -- Assumes nothing.
 use Rattle.std.specs.Prelude.{ℕ, ◌+◌, List, [], ◌∷◌, ◌++◌, get_or}
-use Rattle.branch.specs.declared.Slot.{Slot}
-use Rattle.branch.specs.declared.Slot.TheVariants as slot
+use Rattle.branch.specs.Slots.{Slot}
+use Rattle.std.specs.Prelude.{None, Some}
 use Rattle.branches.specs.Readout.{no_side}
 use Rattle.branches.specs.declared.Side.{Side}
 use Rattle.sequencer.specs.declared.states.Outcome.{Outcome}
 use Rattle.sequencer.specs.declared.states.Outcome.TheVariants.{Nothing, Cleared, Event, Tag}
 use Rattle.supervisor.specs.declared.Answer.{Answer}
-use Rattle.declines.specs.Answers.{Reply, declined, done, value, ticked}
+use Rattle.printer.specs.declared.Refusal.{Refusal}
+use Rattle.printer.specs.declared.Refusal.TheVariants.{Declined, Malformed}
+use Rattle.declines.specs.Answers.{decline_number, Reply, declined, done, value, ticked}
 use Rattle.text.specs.Text.{newline, space, hex}
 
 -- ---- fields
@@ -30,8 +33,8 @@ outcome_text (Tag w) = 103 ∷ hex 2 w
 
 -- [Console.7] `-` or the word
 abbrev pub slot_text : Slot → List ℕ
-slot_text slot.Nothing = dash
-slot_text (slot.Word w) = hex 2 w
+slot_text None = dash
+slot_text (Some w) = hex 2 w
 
 abbrev pub side_at : List Side → (b : ℕ) → Side
 side_at sides b = get_or sides b no_side
@@ -67,6 +70,17 @@ abbrev pub spaced : List (List ℕ) → List ℕ
 spaced [] = newline ∷ []
 spaced (f ∷ []) = f ++ (newline ∷ [])
 spaced (f ∷ (g ∷ fs)) = f ++ (space ∷ spaced (g ∷ fs))
+
+-- ---- refusals
+
+-- [Console.5] a line of other form, a bad first line, a longer script
+abbrev pub malformed : ℕ
+malformed = 6
+
+-- [Console.5] document 01's number for each decline, and the console's own
+abbrev pub refusal_number : Refusal → ℕ
+refusal_number (Declined d) = decline_number d
+refusal_number Malformed = malformed
 
 -- ---- answers
 

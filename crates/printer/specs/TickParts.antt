@@ -1,15 +1,14 @@
 -- A tick's answer in the parts that the code prints, each by a function of its own. A buyer need not believe it: what
 -- the parts make together is `spaced (fields_of a)` (proofs/PartLaws.antt).
 --     masks_part                  the five masks, a space after each
---     sides_part                  what the four branches show, or finished, a space before each
+--     slots_part                  what the four branches finished, or show, a space before each
 -- Own rules of 01 used here: none. Decisions: none. Left out: nothing.
 -- Assumes nothing.
-use Rattle.std.specs.Prelude.{ℕ, Bool, List, [], ◌∷◌, ◌++◌, if◌then◌else◌}
-use Rattle.branch.specs.declared.Slot.{Slot}
-use Rattle.branches.specs.declared.Side.{Side}
+use Rattle.std.specs.Prelude.{ℕ, List, [], ◌∷◌, ◌++◌}
+use Rattle.branch.specs.Slots.{Slot}
 use Rattle.trigger.specs.declared.latch.Masks.{Masks}
 use Rattle.text.specs.Text.{space, hex}
-use Rattle.printer.specs.Printer.{slot_text, side_at}
+use Rattle.printer.specs.Printer.{slot_text}
 
 unfoldable pub mask_part : (mask : ℕ) → List ℕ
 mask_part mask = hex 3 mask ++ (space ∷ [])
@@ -22,12 +21,7 @@ masks_part m =
 unfoldable pub slot_part : Slot → List ℕ
 slot_part slot = space ∷ slot_text slot
 
--- the word that a branch shows, or that it finished
-abbrev pub slot_of : (shown : Bool) → Side → Slot
-slot_of shown side = if shown then side.shown else side.finished
-
-unfoldable pub sides_part : (shown : Bool) → List Side → List ℕ
-sides_part shown sides =
-    slot_part (slot_of shown (side_at sides 0))
-    ++ (slot_part (slot_of shown (side_at sides 1))
-    ++ (slot_part (slot_of shown (side_at sides 2)) ++ slot_part (slot_of shown (side_at sides 3))))
+-- a space before each slot
+unfoldable pub slots_part : List Slot → List ℕ
+slots_part [] = []
+slots_part (slot ∷ slots) = slot_part slot ++ slots_part slots

@@ -9,8 +9,8 @@ use Rattle.branch.specs.Branch.{queue_depth, held, has_free_place_of}
 use Rattle.branch.specs.Branch as branch
 use Rattle.branch.specs.Slots.{words_in}
 use Rattle.branch.proofs.BranchLaws.{held_length}
-use Rattle.branch.specs.declared.Slot.{Slot}
-use Rattle.branch.specs.declared.Slot.TheVariants as slot
+use Rattle.branch.specs.Slots.{Slot}
+use Rattle.std.specs.Prelude.{None}
 use Rattle.branch.specs.declared.Branch.{Branch}
 use Rattle.branches.specs.ReadoutFields.{branch_at}
 use Rattle.branches.specs.Readout as readout
@@ -31,13 +31,13 @@ module _ (acks enabled : ℕ → ℕ) (eight : Bool) (bs : List Branch) (sound :
   abbrev after : Slot → Branch
   after load = branch_at (readout.branches_after_of acks enabled load bs) k
 
-  pub adds_none : (after slot.Nothing).len ≤ before.len
+  pub adds_none : (after None).len ≤ before.len
   adds_none =
       let fine = branches_test eight bs sound in
-      let order = laws.step_keeps_order acks enabled slot.Nothing bs k h eight fine refl (λ e. absurd (false≢true e)) in
-      let words = words_in (get_or (readout.sides_after_of acks enabled slot.Nothing bs) k readout.no_side).finished in
-      let sum = sym (length-append words (held (after slot.Nothing))) ∙ ap length (order ∙ append-nil (held before)) in
-      omega (arith, sum, held_length (after slot.Nothing), held_length before)
+      let order = laws.step_keeps_order acks enabled None bs k h eight fine refl (λ e. absurd (false≢true e)) in
+      let words = words_in (get_or (readout.sides_after_of acks enabled None bs) k readout.no_side).finished in
+      let sum = sym (length-append words (held (after None))) ∙ ap length (order ∙ append-nil (held before)) in
+      omega (arith, sum, held_length (after None), held_length before)
 
   -- one branch after a tick whose outcome is o: eight' is whether eight words are allowed after it
   pub branch_stays_sound : (o : Outcome) (eight' : Bool)
@@ -65,4 +65,4 @@ module _ (acks enabled : ℕ → ℕ) (eight : Bool) (bs : List Branch) (sound :
       go true q e = absurd (true≢false (sym (loads q) ∙ e))
       go false q e =
           rw (no_load o q)
-          (lt-ltb (after slot.Nothing).len queue_depth (omega (arith, adds_none, room_before e)))
+          (lt-ltb (after None).len queue_depth (omega (arith, adds_none, room_before e)))

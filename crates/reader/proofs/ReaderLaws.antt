@@ -1,23 +1,26 @@
 -- Laws of the reader: what its loops go by.
---     found_is_length, length_at_most   the length of a line, as a search of its bytes finds it; within the script
+--     found_is_length, newline_found, length_at_most   the length of a line, as a search of its bytes finds it; within the script
 --     lines_end          a last line without its newline reads as with it
 --     lines_append       the lines up to a newline do not depend on the bytes after it
+--     commands_none, commands_first   what the lines ask, one after the other
 --     lines_first        the lines of a script that is not empty: its first line, and those after its newline
 -- Assumes nothing.
-use Prim.Native.Nat.{ℕ, suc, ◌<◌, ◌≤◌}
+use Prim.Native.Nat.{ℕ, suc, ◌+◌, ◌<◌, ◌≤◌}
 use mathlib.Core.Path.{◌≡◌, refl, sym, ap, ◌∙◌}
 use mathlib.Core.Bool.{Bool, true, false, cond}
-use mathlib.Core.List.{List, [], ◌∷◌, ◌++◌}
+use mathlib.Core.List.{map, List, [], ◌∷◌, ◌++◌}
 use native.Mathlib.Omega.{arith}
 use lib.Dec.{eqb, ltb}
 use lib.ListN.{length, take, drop}
 use Rattle.std.proofs.Common.{Some, None}
+use Rattle.std.specs.Option.{unwrap_or}
 use Rattle.std.specs.List.{position, position_or_len}
 use Rattle.std.proofs.lemmas.List.Recursion.{is_position_or_len}
 use borrow.Author.Tests.{ltb-false}
 use Rattle.bits.proofs.TestLaws.{by_cond}
 use Rattle.text.specs.Text.{newline}
-use Rattle.reader.specs.Reader.{before_first, lines_of, line_length_of}
+use Rattle.reader.specs.Reader.{before_first, lines_of, line_length_of, first_line_of, command_of, commands_of}
+use native.Mathlib.Numerals.{add-one}
 
 -- ---- the first line
 
@@ -36,26 +39,16 @@ length_at_most (b ∷ bs) =
     by_cond (λ (n : ℕ). n ≤ suc (length bs)) (eqb b newline) (λ _. omega arith)
     (λ _. omega (arith, length_at_most bs))
 
--- what a search for the newline finds, of which `k` is the index, is the length
-module _ (l : List ℕ) where
-  at : ℕ
-  at = position_or_len (λ (b : ℕ). eqb b newline) l
+-- where a search finds the newline, or the end
+pub newline_found : (l : List ℕ) → unwrap_or (position (λ (b : ℕ). eqb b newline) l) (length l) ≡ line_length_of l
+newline_found l = go (ltb at (length l)) refl
+  where
+    at : ℕ
+    at = position_or_len (λ (b : ℕ). eqb b newline) l
 
-  pub found : (n : ℕ) → position (λ (b : ℕ). eqb b newline) l ≡ Some n → n ≡ line_length_of l
-  unfolding at
-  found n e = go (ltb at (length l)) e ∙ found_is_length l
-    where
-      go : (t : Bool) → cond t (Some at) None ≡ Some n → n ≡ at
-      go true e = cc
-      go false e = absurd cc
-
-  pub not_found : position (λ (b : ℕ). eqb b newline) l ≡ None → length l ≡ line_length_of l
-  unfolding at
-  not_found e = go (ltb at (length l)) refl e
-    where
-      go : (t : Bool) → ltb at (length l) ≡ t → cond t (Some at) None ≡ None → length l ≡ line_length_of l
-      go true h e = absurd cc
-      go false h e = omega (arith, ltb-false at (length l) h, length_at_most l, found_is_length l)
+    go : (t : Bool) → ltb at (length l) ≡ t → unwrap_or (cond t (Some at) None) (length l) ≡ line_length_of l
+    go true h = found_is_length l
+    go false h = omega (arith, ltb-false at (length l) h, length_at_most l, found_is_length l)
 
 -- ---- lines
 
@@ -102,3 +95,14 @@ lines_append (c ∷ a) b =
     pushed c true ls ms h = refl
     pushed c false [] ms h = absurd (omega arith)
     pushed c false (l ∷ ls) ms h = refl
+
+-- ---- what the lines ask
+
+pub commands_none : (l : List ℕ) → length l ≡ 0 → commands_of l ≡ []
+unfolding lines_of
+commands_none [] h = refl
+commands_none (b ∷ bs) h = absurd (omega arith)
+
+pub commands_first : (l : List ℕ) → 0 < length l →
+    commands_of l ≡ (first_line_of l).command ∷ commands_of (drop ((first_line_of l).len + 1) l)
+commands_first l h = rw (add-one (line_length_of l)) (ap (map command_of) (lines_first l h))

@@ -7,7 +7,7 @@
 --     command_of       what a line asks; Other for a line of other form
 -- Own rules of 01 used here: none. Decisions: K1. Left out: nothing.
 -- Assumes nothing.
-use Rattle.std.specs.Prelude.{ℕ, zero, suc, ◌+◌, ◌*◌, Bool, ◌&&◌, List, [], ◌∷◌, eqb, length, get_or, take, if◌then◌else◌}
+use Rattle.std.specs.Prelude.{ℕ, zero, suc, ◌+◌, ◌*◌, Bool, ◌&&◌, List, [], ◌∷◌, eqb, length, get_or, take, map, if◌then◌else◌}
 use Rattle.bits.specs.Bits.{every}
 use Rattle.text.specs.Text.{tab, newline, is_digit_of, digit_of}
 use Rattle.reader.specs.declared.Command.{Command}
@@ -91,3 +91,7 @@ line_length_of (b ∷ bs) = if eqb b newline then 0 else suc (line_length_of bs)
 -- [Console.4] the first line of what is left
 abbrev pub first_line_of : List ℕ → Line
 first_line_of rest = record { len = line_length_of rest; command = command_of (take (line_length_of rest) rest) }
+
+-- what the lines ask, one after the other
+abbrev pub commands_of : List ℕ → List Command
+commands_of rest = map command_of (lines_of rest)

@@ -1,14 +1,18 @@
-// The script's reader (document 01, "Console program"). The definitions are in specs/Reader.antt. Reading is total: past
-// the end of a line stands 0, a byte of no form.
-#![tactic(auto)]
+// The script's reader (document 01, "Console program"). The definitions are in specs/Reader.antt. A line is read field by field, from its
+// front: what is left of it is a part of the script's slice.
+#![tactic(auto, using(crate::proofs::FieldLaws::fields_after))]
 
-ghost use Rattle.std.specs.Prelude.{◌≡◌, ◌+◌, ◌<◌, ◌≤◌, ◌^◌, ◌==◌, length, position};
+ghost use Rattle.std.specs.Prelude.{◌≡◌, ◌+◌, ◌<◌, ◌≤◌, ◌^◌, ◌==◌, [], ◌∷◌, true, false, length, position, drop, IfSome, IfNone};
+ghost use Rattle.std.specs.Iterator.{YieldsFirst, item_count};
+ghost use Rattle.std.specs.Bool.{then_some};
+ghost use Rattle.std.specs.Option.{unwrap_or};
 ghost use Rattle.text.specs.Text.{newline};
-ghost use Rattle.reader.specs.Reader.{byte_of, has_digits_of, has_field_of, is_write_register_of, is_read_register_of};
-ghost use Rattle.reader.specs.Reader.{is_write_memory_of, is_read_memory_of, is_tick_of, number_at, command_of};
-ghost use Rattle.reader.specs.Reader.{line_length_of, first_line_of};
+ghost use Rattle.reader.specs.Reader.{has_digits_of, has_field_of, has_fields, number_at, command_of};
+ghost use Rattle.reader.specs.Reader.{line_length_of, first_line_of, commands_of};
+ghost use Rattle.reader.specs.Fields.{Field};
+ghost use Rattle.reader.specs.declared.Command.TheVariants.{WriteRegister, ReadRegister, WriteMemory, ReadMemory, Tick, Other};
 
-use text::{digit, is_digit};
+use text::{Digits, digit_value};
 
 // What a line asks.
 #[derive(Clone, Copy)]
@@ -18,139 +22,113 @@ pub enum Command {
     WriteMemory(u32, u16),
     ReadMemory(u32),
     Tick(u32, u32, u32),
+    // A variant and no Option, since `line_answer` and the claims about it go by it.
     Other,
 }
 
-// A line of the script: how many bytes stand before its newline, and what it asks.
+// A line of the script, in the form that `first_line` promises: how many bytes stand before its newline, and what it asks.
 #[derive(Clone, Copy)]
 pub struct Line {
     pub len: usize,
     pub command: Command,
 }
 
-// ---- the form of a line
+// ---- the fields of a line
 
-fn byte(line: &[u8], i: usize) -> u8
-    ensures { result ≡ byte_of line.now i }
+// The number that some digits write, the highest first.
+#[tactic(auto, using(crate::proofs::FieldLaws::digits_none, crate::proofs::FieldLaws::digits_next, crate::proofs::FieldLaws::digits_stop, crate::proofs::FieldLaws::number_none, crate::proofs::FieldLaws::number_next))]
+fn number(digits: &[u8]) -> Option<u32>
+    requires { length digits.now ≤ 8 }
+    ensures value { IfSome result (λ v. (has_digits_of digits.now 0 (length digits.now) ≡ true) × (v ≡ number_at digits.now 0 (length digits.now))) }
+    ensures upper_bound { IfSome result (λ v. v < 16 ^ length digits.now) }
+    ensures other { IfNone result (has_digits_of digits.now 0 (length digits.now) ≡ false) }
 {
-    if i < line.len() { line[i] } else { 0 }
-}
-
-fn has_digits(line: &[u8], at: usize, count: usize) -> bool
-    requires { at + count < 65536 }
-    ensures { result ≡ has_digits_of line.now at count }
-{
-    let mut i = 0;
-    while i < count {
-        if !is_digit(byte(line, at + i)) {
-            return false;
-        }
-        i += 1;
+    let mut value = 0;
+    for b in digits {
+        value = 16 * value + digit_value(*b)?;
     }
-    true
+    Some(value)
 }
 
-fn has_field(line: &[u8], at: usize, count: usize) -> bool
-    requires { at + count < 65535 }
-    ensures { result ≡ has_field_of line.now at count }
+// [Console.3] a tab and so many digits: their number, and what comes after them
+#[tactic(auto, using(crate::proofs::FieldLaws::field_found, crate::proofs::FieldLaws::field_bad, crate::proofs::FieldLaws::field_short))]
+fn field(rest: &[u8], digits: Digits) -> Option<(u32, &[u8])>
+    ensures found { IfSome result (λ r. Field rest.now digits.count r.0 r.1.now) }
+    ensures other { IfNone result (has_field_of rest.now 0 digits.count ≡ false) }
 {
-    (byte(line, at) == b'\t') & has_digits(line, at + 1, count)
-}
-
-fn is_write_register(line: &[u8]) -> bool
-    ensures { result ≡ is_write_register_of line.now }
-{
-    if byte(line, 0) != b'W' {
-        return false;
+    let (tab, rest) = rest.split_first()?;
+    let (digits, rest) = rest.split_at_checked(digits.count as usize)?;
+    if *tab != b'\t' {
+        return None;
     }
-    has_field(line, 1, 2) & (has_field(line, 4, 8) & (line.len() == 13))
+    let value = number(digits)?;
+    Some((value, rest))
 }
 
-fn is_read_register(line: &[u8]) -> bool
-    ensures { result ≡ is_read_register_of line.now }
+// ---- what a line asks, by what comes after its letter
+
+fn write_register(rest: &[u8]) -> Option<Command>
+    ensures { result ≡ then_some (has_fields rest.now 0 (2 ∷ 8 ∷ [])) (WriteRegister (number_at rest.now 1 2) (number_at rest.now 4 8)) }
 {
-    if byte(line, 0) != b'R' {
-        return false;
+    let (number, rest) = field(rest, Digits { count: 2 })?;
+    let (value, rest) = field(rest, Digits { count: 8 })?;
+    rest.is_empty()
+        .then_some(Command::WriteRegister(number, value))
+}
+
+fn read_register(rest: &[u8]) -> Option<Command>
+    ensures { result ≡ then_some (has_fields rest.now 0 (2 ∷ [])) (ReadRegister (number_at rest.now 1 2)) }
+{
+    let (number, rest) = field(rest, Digits { count: 2 })?;
+    rest.is_empty().then_some(Command::ReadRegister(number))
+}
+
+fn write_memory(rest: &[u8]) -> Option<Command>
+    ensures { result ≡ then_some (has_fields rest.now 0 (3 ∷ 4 ∷ [])) (WriteMemory (number_at rest.now 1 3) (number_at rest.now 5 4)) }
+{
+    let (place, rest) = field(rest, Digits { count: 3 })?;
+    let (word, rest) = field(rest, Digits { count: 4 })?;
+    rest.is_empty()
+        .then_some(Command::WriteMemory(place, word as u16))
+}
+
+fn read_memory(rest: &[u8]) -> Option<Command>
+    ensures { result ≡ then_some (has_fields rest.now 0 (3 ∷ [])) (ReadMemory (number_at rest.now 1 3)) }
+{
+    let (place, rest) = field(rest, Digits { count: 3 })?;
+    rest.is_empty().then_some(Command::ReadMemory(place))
+}
+
+fn tick(rest: &[u8]) -> Option<Command>
+    ensures { result ≡ then_some (has_fields rest.now 0 (3 ∷ 2 ∷ 8 ∷ [])) (Tick (number_at rest.now 1 3) (number_at rest.now 5 2) (number_at rest.now 8 8)) }
+{
+    let (triggers, rest) = field(rest, Digits { count: 3 })?;
+    let (lines, rest) = field(rest, Digits { count: 2 })?;
+    let (acks, rest) = field(rest, Digits { count: 8 })?;
+    rest.is_empty()
+        .then_some(Command::Tick(triggers, lines, acks))
+}
+
+// [Console.3] by its letter, one of the five kinds of line
+fn asked(line: &[u8]) -> Option<Command>
+    ensures { unwrap_or result Other ≡ command_of line.now }
+{
+    let (letter, rest) = line.split_first()?;
+    match *letter {
+        b'W' => write_register(rest),
+        b'R' => read_register(rest),
+        b'M' => write_memory(rest),
+        b'V' => read_memory(rest),
+        b'T' => tick(rest),
+        _ => None,
     }
-    has_field(line, 1, 2) & (line.len() == 4)
 }
 
-fn is_write_memory(line: &[u8]) -> bool
-    ensures { result ≡ is_write_memory_of line.now }
-{
-    if byte(line, 0) != b'M' {
-        return false;
-    }
-    has_field(line, 1, 3) & (has_field(line, 5, 4) & (line.len() == 10))
-}
-
-fn is_read_memory(line: &[u8]) -> bool
-    ensures { result ≡ is_read_memory_of line.now }
-{
-    if byte(line, 0) != b'V' {
-        return false;
-    }
-    has_field(line, 1, 3) & (line.len() == 5)
-}
-
-fn is_tick(line: &[u8]) -> bool
-    ensures { result ≡ is_tick_of line.now }
-{
-    if byte(line, 0) != b'T' {
-        return false;
-    }
-    has_field(line, 1, 3) & (has_field(line, 5, 2) & (has_field(line, 8, 8) & (line.len() == 17)))
-}
-
-// ---- what a line asks
-
-fn number_at(line: &[u8], at: usize, count: usize) -> u32
-    requires count_bound { at + count < 65536 }
-    requires count_bound_2 { count ≤ 8 }
-    ensures value { result ≡ number_at line.now at count }
-    ensures upper_bound { result < 16 ^ count }
-{
-    let mut value: u32 = 0;
-    let mut i = 0;
-    while i < count {
-        value = 16 * value + digit(byte(line, at + i));
-        i += 1;
-    }
-    value
-}
-
-// A memory word has four digits.
-fn word_at(line: &[u8], at: usize) -> u16
-    requires { at < 65532 }
-    ensures { result ≡ number_at line.now at 4 }
-{
-    number_at(line, at, 4) as u16
-}
-
-// [Console.3] one of the five kinds of line, or any other
+// [Console.3] [Console.5] or any other
 fn command_of(line: &[u8]) -> Command
     ensures { result ≡ command_of line.now }
 {
-    if is_write_register(line) {
-        return Command::WriteRegister(number_at(line, 2, 2), number_at(line, 5, 8));
-    }
-    if is_read_register(line) {
-        return Command::ReadRegister(number_at(line, 2, 2));
-    }
-    if is_write_memory(line) {
-        return Command::WriteMemory(number_at(line, 2, 3), word_at(line, 6));
-    }
-    if is_read_memory(line) {
-        return Command::ReadMemory(number_at(line, 2, 3));
-    }
-    if is_tick(line) {
-        return Command::Tick(
-            number_at(line, 2, 3),
-            number_at(line, 6, 2),
-            number_at(line, 9, 8),
-        );
-    }
-    Command::Other
+    asked(line).unwrap_or(Command::Other)
 }
 
 // ---- the line reader
@@ -162,14 +140,12 @@ fn first_newline(rest: &[u8]) -> Option<usize>
 }
 
 // How many bytes of the rest stand before its first newline. The second clause is for the part that is the line.
+#[tactic(auto, using(crate::proofs::ReaderLaws::length_at_most))]
 pub fn line_length(rest: &[u8]) -> usize
     ensures value { result ≡ line_length_of rest.now }
     ensures upper_bound { result ≤ length rest.now }
 {
-    match first_newline(rest) {
-        Some(at) => at,
-        None => rest.len(),
-    }
+    first_newline(rest).unwrap_or(rest.len())
 }
 
 // [Console.4] the first line of the rest of a script, from any line onward
@@ -180,5 +156,33 @@ pub fn first_line(rest: &[u8]) -> Line
     Line {
         len,
         command: command_of(&rest[..len]),
+    }
+}
+
+// What is left after so many bytes; past the end nothing is.
+pub fn after(rest: &[u8], count: usize) -> &[u8]
+    ensures { result.now ≡ drop count rest.now }
+{
+    rest.get(count..).unwrap_or_default()
+}
+
+// What the lines of the rest of a script ask, one after the other: each is the first line of what the ones before it left.
+#[derive(Drop)]
+pub struct Lines<'a>(pub &'a [u8]);
+
+impl Iterator for Lines<'_> {
+    type Item = Command;
+
+    ghost next_gives = { YieldsFirst (λ s. commands_of s.0.now) };
+
+    ghost remaining = { item_count (λ s. commands_of s.0.now) };
+
+    fn next(&mut self) -> Option<Command> {
+        if self.0.is_empty() {
+            return None;
+        }
+        let line = first_line(self.0);
+        self.0 = after(self.0, line.len + 1);
+        Some(line.command)
     }
 }

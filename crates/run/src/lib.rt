@@ -5,6 +5,8 @@
 ghost use Rattle.std.specs.Prelude.{◌≡◌, if◌then◌else◌};
 ghost use Rattle.run.specs.Run.{whole, is_whole_of, is_run_of, holds_byte, has_byte3, byte_mask_of, overlaid_of, cut_of};
 
+use bits::select;
+
 // A first byte and a count; BYTE(0) is the highest of a word, BYTE(3) the lowest. Any two numbers may be given.
 #[derive(Clone, Copy)]
 pub struct Run {
@@ -36,6 +38,7 @@ impl Run {
     }
 
     // [Bytes.11] neither empty nor past the last byte; without the sum of the two, which might not fit
+    #[tactic(auto, unfolding(crate::specs::Run::is_run_of))]
     pub fn is_run(self) -> bool
         ensures { result ≡ is_run_of self }
     {
@@ -54,6 +57,7 @@ impl Run {
     }
 
     // BYTE(b) is one of the run's
+    #[tactic(auto, unfolding(crate::specs::Run::holds_byte))]
     pub fn holds(self, b: u32) -> bool
         ensures { result ≡ holds_byte self b }
     {
@@ -75,10 +79,10 @@ impl Run {
     fn mask(self) -> u32
         ensures { result ≡ byte_mask_of self }
     {
-        part(self.holds(0), Run::BYTE_0)
-            | part(self.holds(1), Run::BYTE_1)
-            | part(self.holds(2), Run::BYTE_2)
-            | part(self.holds(3), Run::BYTE_3)
+        select(self.holds(0), Run::BYTE_0, 0)
+            | select(self.holds(1), Run::BYTE_1, 0)
+            | select(self.holds(2), Run::BYTE_2, 0)
+            | select(self.holds(3), Run::BYTE_3, 0)
     }
 
     // [Bytes.3a] the run's bytes of a value, and the other bytes of an old one
@@ -98,11 +102,4 @@ impl Run {
     {
         self.overlaid(0, value)
     }
-}
-
-// the bits of a byte that is held
-fn part(t: bool, mask: u32) -> u32
-    ensures { result ≡ (if t then mask else 0) }
-{
-    if t { mask } else { 0 }
 }

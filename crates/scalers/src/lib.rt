@@ -57,7 +57,9 @@ impl Signals {
         pulses & !moves
     }
 
-    // [Assign.1] scaler 1 counts this tick
+    // [Assign.1] scaler 1 counts this tick. A chain of tests: as a match on the code a tick takes 300, 352 and 581 instructions for 277,
+    // 313 and 487.
+    #[tactic(auto, unfolding(crate::specs::Scalers::counts_of))]
     pub fn counts(self, code: u32) -> bool
         ensures { result ≡ counts_of self code }
     {

@@ -14,10 +14,11 @@ use borrow.Author.Tests.{ne_eqb, le-leb, ltb-true, ltb-false}
 use Rattle.bits.specs.Bytes.{all_of}
 use Rattle.bits.proofs.BytesLaws.{all_append}
 use Rattle.bits.proofs.TestLaws.{and_left, and_right, and_both, or_true, by_cond}
-use Rattle.branch.specs.declared.Slot.{Slot}
-use Rattle.branch.specs.declared.Slot.TheVariants as slot
+use Rattle.branch.specs.Slots.{Slot}
+use Rattle.std.specs.Prelude.{None, Some}
 use Rattle.sequencer.specs.declared.states.Outcome.{Outcome}
 use Rattle.sequencer.specs.declared.states.Outcome.TheVariants.{Nothing, Cleared, Event, Tag}
+use Rattle.std.specs.Prelude.{Result, Ok, Err}
 use Rattle.supervisor.specs.declared.Answer.{Answer}
 use Rattle.trigger.specs.Lines.{inputs_of}
 use Rattle.declines.specs.Answers.{decline_number, verdict_reply, reading_reply, tick_reply}
@@ -25,10 +26,6 @@ use Rattle.declines.specs.Calls.{write_register_of, read_register_of, write_memo
 use Rattle.declines.proofs.BytesCallsLaws.{plain_write_reply, plain_read_reply}
 use Rattle.declines.specs.declared.Decline.{Decline}
 use Rattle.declines.specs.declared.Decline.TheVariants.{Spoiled, Length, Place, Active, Value}
-use Rattle.declines.specs.declared.Verdict.{Verdict}
-use Rattle.declines.specs.declared.Verdict.TheVariants.{Done, Declined}
-use Rattle.declines.specs.declared.Reading.{Reading}
-use Rattle.declines.specs.declared.Reading.TheVariants as reading
 use Rattle.text.specs.Text.{newline, space, hex_digit, hex, is_decimal, is_capital}
 use Rattle.reader.specs.Reader.{command_of}
 use Rattle.printer.specs.Printer.{outcome_text, slot_text, side_at, fields_of, spaced, reply_text, no_text}
@@ -78,8 +75,8 @@ hex_plain (suc n) v =
     (hex_plain n v)
 
 slot_plain : (s : Slot) → Plain (slot_text s)
-slot_plain slot.Nothing = refl
-slot_plain (slot.Word w) = hex_plain 2 w
+slot_plain None = refl
+slot_plain (Some w) = hex_plain 2 w
 
 outcome_plain : (o : Outcome) → Plain (outcome_text o)
 outcome_plain Nothing = refl
@@ -130,17 +127,17 @@ no_line Place = record { text = 110 ∷ 111 ∷ 32 ∷ 51 ∷ []; ends = refl; p
 no_line Active = record { text = 110 ∷ 111 ∷ 32 ∷ 52 ∷ []; ends = refl; plain = refl }
 no_line Value = record { text = 110 ∷ 111 ∷ 32 ∷ 53 ∷ []; ends = refl; plain = refl }
 
-verdict_line : (v : Verdict) → OneLine (reply_text 0 (verdict_reply v))
-verdict_line Done = record { text = 111 ∷ 107 ∷ []; ends = refl; plain = refl }
-verdict_line (Declined d) = no_line d
+verdict_line : (r : Result Unit Decline) → OneLine (reply_text 0 (verdict_reply r))
+verdict_line (Ok u) = record { text = 111 ∷ 107 ∷ []; ends = refl; plain = refl }
+verdict_line (Err d) = no_line d
 
-reading_line : (n : ℕ) (r : Reading) → OneLine (reply_text n (reading_reply r))
-reading_line n (reading.Value v) = spaced_line (also (hex n v) (hex_plain n v) none)
-reading_line n (reading.Declined d) = no_line d
+reading_line : (n : ℕ) (r : Result ℕ Decline) → OneLine (reply_text n (reading_reply r))
+reading_line n (Ok v) = spaced_line (also (hex n v) (hex_plain n v) none)
+reading_line n (Err d) = no_line d
 
-tick_reply_line : (v : Verdict) (a : Answer) → OneLine (reply_text 0 (tick_reply v a))
-tick_reply_line Done a = tick_line a
-tick_reply_line (Declined d) a = no_line d
+tick_reply_line : (r : Result Answer Decline) → OneLine (reply_text 0 (tick_reply r))
+tick_reply_line (Ok a) = tick_line a
+tick_reply_line (Err d) = no_line d
 
 pub answer_is_line : (c : Command) (z : Session) → OneLine (line_answer c z)
 answer_is_line (WriteRegister number v) z =
@@ -152,8 +149,7 @@ answer_is_line (ReadRegister number) z =
 answer_is_line (WriteMemory place w) z = verdict_line (write_memory_of z.memory place z.supervisor).answer
 answer_is_line (ReadMemory place) z = reading_line 4 (read_memory_of z.memory place z.supervisor).answer
 answer_is_line (Tick triggers lines acks) z =
-    let t = tick_of z.memory (inputs_of triggers lines acks) z.supervisor in
-    tick_reply_line t.verdict t.answer
+    tick_reply_line (tick_of z.memory (inputs_of triggers lines acks) z.supervisor).answer
 answer_is_line Other z = record { text = 110 ∷ 111 ∷ 32 ∷ 54 ∷ []; ends = refl; plain = refl }
 
 -- ---- as many answers as lines

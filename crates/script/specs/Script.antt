@@ -13,7 +13,7 @@ use Rattle.trigger.specs.Lines.{inputs_of}
 use Rattle.declines.specs.Runs.{plain_write, plain_read, write_memory, read_memory, tick}
 use Rattle.declines.specs.Runs.{Session, fresh_session, reply_to, after}
 use Rattle.reader.specs.Reader.{lines_of, command_of}
-use Rattle.printer.specs.Printer.{reply_text, no_text}
+use Rattle.printer.specs.Printer.{malformed, reply_text, no_text}
 use Rattle.reader.specs.declared.Command.{Command}
 use Rattle.reader.specs.declared.Command.TheVariants.{WriteRegister, ReadRegister, WriteMemory}
 use Rattle.reader.specs.declared.Command.TheVariants.{ReadMemory, Tick, Other}
@@ -27,10 +27,6 @@ script_limit = 65536
 -- how long the buffer is that the answers are printed in: five bytes for each byte of script
 abbrev pub capacity : ℕ
 capacity = 327680
-
--- [Console.5] a line of other form, a bad first line, a longer script
-abbrev pub malformed : ℕ
-malformed = 6
 
 -- [Console.2] `supervisor`, tab, `1`
 abbrev pub header : List ℕ

@@ -2,21 +2,20 @@
 // specs/Script.antt. `answers` has no `requires`: it answers every script, and what it prints always fits.
 #![tactic(auto)]
 
-ghost use Rattle.std.specs.Prelude.{◌≡◌, ◌+◌, ◌≤◌, take, drop, length};
-ghost use Rattle.bits.specs.Bytes.{is_same_of};
-ghost use Rattle.declines.specs.Runs.{zero_memory};
+ghost use Rattle.std.specs.Prelude.{◌≡◌, ◌≤◌, take, length};
+ghost use Rattle.declines.specs.Runs.{zero_memory, fresh_session};
 ghost use Rattle.reader.specs.Reader.{lines_of};
-ghost use Rattle.declines.specs.Runs.{fresh_session};
-ghost use Rattle.script.specs.Script.{script_limit, capacity};
-ghost use Rattle.script.specs.Script.{is_header_of, answers_from, answers_of};
+ghost use Rattle.script.specs.Script.{capacity, is_header_of, answers_from, answers_of};
+ghost use Rattle.text.specs.Written.{Wrote};
 
 mod session;
 
 use calls::MEMORY_PLACES;
-use printer::put_no;
-use reader::{first_line, line_length};
-use session::{MALFORMED, run_line};
+use printer::{Refusal, put_refusal};
+use reader::{Lines, after, line_length};
+use session::run_line;
 use supervisor::Supervisor;
+use text::Page;
 
 // [Console.1]
 pub const SCRIPT_LIMIT: usize = 65536;
@@ -31,27 +30,11 @@ pub fn output_buffer() -> [u8; CAPACITY]
     [0; CAPACITY]
 }
 
-fn is_same(a: &[u8], b: &[u8]) -> bool
-    ensures { result ≡ is_same_of a.now b.now }
-{
-    if a.len() != b.len() {
-        return false;
-    }
-    let mut i = 0;
-    while i < a.len() {
-        if a[i] != b[i] {
-            return false;
-        }
-        i += 1;
-    }
-    true
-}
-
 // [Console.2]
 fn is_header(line: &[u8]) -> bool
     ensures { result ≡ is_header_of line.now }
 {
-    is_same(line, b"supervisor\t1")
+    line == b"supervisor\t1".as_slice()
 }
 
 // [Console.1]
@@ -61,40 +44,39 @@ fn zero_memory() -> [u16; MEMORY_PLACES]
     [0u16; MEMORY_PLACES]
 }
 
-// [Console.1] [Console.4] the lines from a place onward, on a fresh record and a memory of zeros
-fn run_from(script: &[u8], start: usize, out: &mut [u8]) -> usize
-    requires script_len_bound { length script.now ≤ script_limit }
-    requires start_bound { start ≤ script_limit + 1 }
-    requires out_len { length out.old ≡ capacity }
-    ensures out_after { take result out.new ≡ answers_from (lines_of (drop start script.now)) fresh_session }
-    ensures upper_bound { result ≤ capacity }
+// [Console.1] [Console.4] the lines of the rest of a script, on a fresh record and a memory of zeros
+#[tactic(auto, using(text::proofs::PageLaws::write_append, crate::proofs::RunLaws::lines_answers), unfolding(declines::specs::Runs::fresh_session, text::specs::Page::write))]
+fn run_lines(rest: &[u8], page: &mut Page)
+    ensures { Wrote (answers_from (lines_of rest.now) fresh_session) page.old page.new }
 {
     let mut memory = zero_memory();
     let mut s = Supervisor::fresh();
-    let mut at = start;
-    let mut printed = 0;
-    while at < script.len() {
-        let line = first_line(&script[at..]);
-        let command = line.command;
-        let done = run_line(s, &mut memory, command, out, printed);
-        s = done.next;
-        printed = done.at;
-        at += line.len + 1;
+    for command in Lines(rest) {
+        run_line(&mut s, &mut memory, command, page);
     }
-    printed
 }
 
-// What a script prints is the first so many bytes of `out`, which is as long as ever.
+// [Console.1] [Console.2] [Console.6] a script that is too long or begins otherwise is refused as a whole
+#[tactic(auto, using(crate::proofs::RunLaws::long_script, crate::proofs::RunLaws::bad_first, crate::proofs::RunLaws::good_first))]
+fn run_script(script: &[u8], page: &mut Page)
+    ensures { Wrote (answers_of script.now) page.old page.new }
+{
+    if SCRIPT_LIMIT < script.len() {
+        return put_refusal(page, Refusal::Malformed);
+    }
+    let first = line_length(script);
+    if !is_header(&script[..first]) {
+        return put_refusal(page, Refusal::Malformed);
+    }
+    run_lines(after(script, first + 1), page)
+}
+
+// What a script prints is the first so many bytes of `out`, which is as long as ever; the README names `answers`, so it keeps its form.
 pub fn answers(script: &[u8], out: &mut [u8; CAPACITY]) -> usize
     ensures out_after { take result out.new ≡ answers_of script.now }
     ensures upper_bound { (result ≤ capacity) × (length out.new ≡ capacity) }
 {
-    if SCRIPT_LIMIT < script.len() {
-        return put_no(out, 0, MALFORMED);
-    }
-    let first = line_length(script);
-    if !is_header(&script[..first]) {
-        return put_no(out, 0, MALFORMED);
-    }
-    run_from(script, first + 1, out)
+    let mut page = Page::new(out);
+    run_script(script, &mut page);
+    page.len()
 }

@@ -14,6 +14,7 @@ pub struct MainSequencer {
     pub state: State,
     // 01 calls it c: ticks for which the clear line stays high
     pub clear: u8,
+    // 1–3 and not an enum: a record that is handed in may hold any number, which [Spoiled.1c] then finds
     pub class: u8,
     pub code: u8,
     // ticks since the accept, at most AGE_LIMIT; in the middle for speed: a compiler takes eight bytes in a row for one word
@@ -120,7 +121,9 @@ impl MainSequencer {
         }
     }
 
-    // [Main.1] in a cycle one tick older, up to the limit; built field by field, as with_state does, for speed
+    // [Main.1] in a cycle one tick older, up to the limit. By with_state, which changes nothing here: as a plain copy a tick takes 283, 328
+    // and 534 instructions for 277, 313 and 487.
+    #[tactic(auto, unfolding(crate::specs::MainSequencer::aged_of))]
     pub fn aged(self) -> MainSequencer
         ensures { result ≡ aged_of self }
     {

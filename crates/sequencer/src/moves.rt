@@ -10,6 +10,7 @@ ghost use Rattle.sequencer.specs.declared.states.State.TheVariants.{Front, Space
 use super::main_sequencer::{MainSequencer, MainStep, Tests, quiet_step};
 use super::states::{Outcome, State};
 
+// the rule under its name; by `bits::select` each use would be written out
 fn raised_if(raised: u8, t: bool, line: u8) -> u8
     ensures { result ≡ (if t then set_of line raised else raised) }
 {
@@ -30,24 +31,13 @@ impl MainSequencer {
     pub fn with_state(self, state: State) -> MainSequencer
         ensures { result ≡ with_state state self }
     {
-        MainSequencer {
-            age: self.age,
-            state,
-            clear: self.clear,
-            class: self.class,
-            code: self.code,
-            accept: self.accept,
-            raised: self.raised,
-            late: self.late,
-        }
+        MainSequencer { state, ..self }
     }
 
     pub fn with_raised(self, raised: u8) -> MainSequencer
         ensures { result ≡ with_raised raised self }
     {
-        let mut next = self;
-        next.raised = raised;
-        next
+        MainSequencer { raised, ..self }
     }
 
     // [Main.9] code, sync, late
@@ -91,13 +81,8 @@ impl MainSequencer {
         counting.clear = clear;
         let next = counting.with_state(State::Clear);
         MainStep {
-            next,
             outcome: Outcome::Cleared,
-            late: false,
-            sync: false,
-            ended: false,
-            failed2: false,
-            failed3: false,
+            ..quiet_step(next)
         }
     }
 
@@ -154,13 +139,9 @@ impl MainSequencer {
             let word = self.word(t.sync);
             let next = self.with_state(after_load(t.sync));
             return MainStep {
-                next,
                 outcome: Outcome::Event(word),
-                late: false,
                 sync: t.sync,
-                ended: false,
-                failed2: false,
-                failed3: false,
+                ..quiet_step(next)
             };
         }
         quiet_step(self)

@@ -32,7 +32,7 @@ module _ (s : Supervisor) where
       (mask_same n (λ i. from p (8 + i)) (from (p + 8)) (λ i h. ap (state_bit_at s) (omega arith)))
 
   pub state_of_bytes :
-      state_byte_of 0 s + 256 * state_byte_of 1 s + 65536 * state_byte_of 2 s + 16777216 * state_byte_of 3 s ≡ state_of s
+      state_byte_of 0 s + state_byte_of 1 s * 256 + state_byte_of 2 s * 65536 + state_byte_of 3 s * 16777216 ≡ state_of s
   unfolding state_of state_byte_of
   state_of_bytes =
       let whole = mask_same 32 (from 0) (state_bit_at s) (λ i h. ap (state_bit_at s) (omega arith)) in

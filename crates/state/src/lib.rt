@@ -8,9 +8,8 @@ ghost use Rattle.state.specs.State.{state_of, state_byte_of};
 use supervisor::Supervisor;
 
 // [State.2] [State.6] [State.7] bits 0–7: the trigger levels
-fn levels(s: Supervisor) -> u32
-    ensures value { result ≡ state_byte_of 0 s }
-    ensures upper_bound { result < 256 }
+fn levels(s: Supervisor) -> u8
+    ensures { result ≡ state_byte_of 0 s }
 {
     let core = s.core;
     let main = core.main;
@@ -33,9 +32,8 @@ fn levels(s: Supervisor) -> u32
 }
 
 // [State.3] [State.4a] [State.4b] [State.7] bits 8–15: from LEVEL 3 ACCEPT to READY
-fn cycle(s: Supervisor) -> u32
-    ensures value { result ≡ state_byte_of 1 s }
-    ensures upper_bound { result < 256 }
+fn cycle(s: Supervisor) -> u8
+    ensures { result ≡ state_byte_of 1 s }
 {
     let core = s.core;
     let main = core.main;
@@ -56,9 +54,8 @@ fn cycle(s: Supervisor) -> u32
 }
 
 // [State.5] [State.7] bits 16–23: from ACTIVE to the strobe of branch 2
-fn buffers(s: Supervisor) -> u32
-    ensures value { result ≡ state_byte_of 2 s }
-    ensures upper_bound { result < 256 }
+fn buffers(s: Supervisor) -> u8
+    ensures { result ≡ state_byte_of 2 s }
 {
     let core = s.core;
     let csr = core.csr;
@@ -83,9 +80,8 @@ fn buffers(s: Supervisor) -> u32
 }
 
 // [State.7] bits 24–31: the other branches
-fn handshakes(s: Supervisor) -> u32
-    ensures value { result ≡ state_byte_of 3 s }
-    ensures upper_bound { result < 256 }
+fn handshakes(s: Supervisor) -> u8
+    ensures { result ≡ state_byte_of 3 s }
 {
     let readout = s.readout;
     let strobes = readout.strobes();
@@ -100,5 +96,5 @@ fn handshakes(s: Supervisor) -> u32
 pub fn state(s: Supervisor) -> u32
     ensures { result ≡ state_of s }
 {
-    levels(s) + 256 * cycle(s) + 65536 * buffers(s) + 16777216 * handshakes(s)
+    u32::from_le_bytes([levels(s), cycle(s), buffers(s), handshakes(s)])
 }

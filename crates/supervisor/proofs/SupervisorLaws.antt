@@ -15,7 +15,7 @@ use Rattle.bits.proofs.TestLaws.{and_left, and_right, by_cond}
 use Rattle.registers.specs.Csr as csr
 use Rattle.registers.specs.Control.{inputs, is_enabled, counts}
 use Rattle.branch.specs.Slots.{words_in, is_word_of}
-use Rattle.branch.specs.declared.Slot.TheVariants as slot
+use Rattle.std.specs.Prelude.{None}
 use Rattle.branches.specs.Readout as readout
 use Rattle.branches.proofs.ReadoutLaws.{standing_finishes_nothing, standing_shows}
 use Rattle.sequencer.specs.States.{outcome_words}
@@ -53,7 +53,7 @@ word_is_load Cleared h = h
 word_is_load (Event w) h = refl
 word_is_load (Tag w) h = refl
 
-pub no_load : (o : Outcome) → is_load o ≡ false → load_of o ≡ slot.Nothing
+pub no_load : (o : Outcome) → is_load o ≡ false → load_of o ≡ None
 no_load Nothing h = refl
 no_load Cleared h = refl
 no_load (Event w) h = absurd (true≢false h)

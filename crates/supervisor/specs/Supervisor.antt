@@ -14,8 +14,8 @@ use Rattle.std.specs.Prelude.{◌≡◌, ℕ, ◌+◌, ◌<◌, Bool, not, ◌&&
 use Rattle.bits.specs.Bits.{bit_at}
 use Rattle.registers.specs.Csr as csr
 use Rattle.registers.specs.Control.{inputs, counts}
-use Rattle.branch.specs.declared.Slot.{Slot}
-use Rattle.branch.specs.declared.Slot.TheVariants.{Nothing, Word}
+use Rattle.branch.specs.Slots.{Slot}
+use Rattle.std.specs.Prelude.{None, Some}
 use Rattle.branch.specs.Branch.{shown_in}
 use Rattle.branches.specs.ReadoutFields.{branch_at}
 use Rattle.branches.specs.Readout as readout
@@ -76,10 +76,10 @@ is_spoiled_of s =
 
 -- [Branches.5] [Account.15] what an outcome loads onto every branch
 abbrev pub load_of : Outcome → Slot
-load_of outcome.Nothing = Nothing
-load_of Cleared = Nothing
-load_of (Event w) = Word w
-load_of (Tag w) = Word w
+load_of outcome.Nothing = None
+load_of Cleared = None
+load_of (Event w) = Some w
+load_of (Tag w) = Some w
 
 -- [Main.13] [Main.14] [Usersync.2] the core's step, with the two facts of the branches at the tick's start
 unfoldable pub core_step_of : List ℕ → Inputs → Supervisor → CoreStep
@@ -139,7 +139,7 @@ pub record StandsStill (x : Inputs) (s : Supervisor) (y : Answer) : Type 0 where
   pub others : y.masks.scaled + y.masks.lost + y.masks.rejected + y.masks.accepted ≡ 0
   pub outcome : y.outcome ≡ outcome.Nothing
   pub lines : y.lines ≡ core.lines_out_of s.core
-  pub finished : (k : ℕ) → (slice_index_or y.sides k readout.no_side).finished ≡ Nothing
+  pub finished : (k : ℕ) → (slice_index_or y.sides k readout.no_side).finished ≡ None
   pub shown : (k : ℕ) → k < length s.readout.branches
       → (slice_index_or y.sides k readout.no_side).shown
       ≡ shown_in (branch_at s.readout.branches k).phase (branch_at s.readout.branches k)

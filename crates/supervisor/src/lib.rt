@@ -46,10 +46,8 @@ fn load_of(outcome: Outcome) -> Slot
     ensures { result ≡ load_of outcome }
 {
     match outcome {
-        Outcome::Nothing => Slot::Nothing,
-        Outcome::Cleared => Slot::Nothing,
-        Outcome::Event(w) => Slot::Word(w),
-        Outcome::Tag(w) => Slot::Word(w)
+        Outcome::Nothing | Outcome::Cleared => None,
+        Outcome::Event(word) | Outcome::Tag(word) => Some(word),
     }
 }
 
@@ -98,8 +96,8 @@ impl Supervisor {
         Supervisor { readout, core }
     }
 
-    // The same record, field by field, for a tick that leaves it as it is: a plain copy would have every tick carry the bytes
-    // between the fields.
+    // The same record, field by field, for a tick that leaves it as it is: by a plain copy every tick carries the bytes between the
+    // fields, and takes 363, 400 and 574 instructions where it takes 277, 313 and 487 (DECISIONS F28).
     pub fn rebuilt(self) -> Supervisor
         ensures { result ≡ self }
     {

@@ -3,6 +3,7 @@
 #![tactic(auto)]
 
 ghost use Rattle.std.specs.Prelude.{◌≡◌, ◌<◌, length};
+ghost use Rattle.std.specs.List.{list_all};
 ghost use Rattle.table.specs.Shipped.{shipped_words};
 ghost use Rattle.table.specs.Table.{is_taken_word, are_taken, over_of, table_word_of, table_of};
 
@@ -35,18 +36,17 @@ fn is_taken_word(word: u16) -> bool
     bits::bit_at(w, 0) & (classes == 1)
 }
 
+fn all_taken(words: &[u16]) -> bool
+    ensures { result ≡ list_all is_taken_word words.now }
+{
+    words.iter().all(|word| is_taken_word(*word))
+}
+
 // [Table.8b] all twelve
 pub fn are_taken(words: [u16; 12]) -> bool
     ensures { result ≡ are_taken words }
 {
-    let mut i: usize = 0;
-    while i < INPUTS {
-        if !is_taken_word(words[i]) {
-            return false;
-        }
-        i += 1;
-    }
-    true
+    all_taken(&words)
 }
 
 // An input's word over what the inputs above it have made: bits 0–7 are its own, the accept bits are those of both. The second
@@ -63,9 +63,7 @@ fn word_at(words: [u16; 12], place: usize) -> u16
     ensures { result ≡ table_word_of words place }
 {
     let mut word: u16 = 0;
-    let mut i = INPUTS;
-    while 0 < i {
-        i -= 1;
+    for i in (0..INPUTS).rev() {
         if (place >> i) % 2 == 1 {
             word = over(words[i], word);
         }
@@ -77,9 +75,7 @@ fn word_at(words: [u16; 12], place: usize) -> u16
 pub fn fill(memory: &mut [u16], words: [u16; 12])
     ensures { memory.new ≡ table_of (length memory.old) words }
 {
-    let mut place: usize = 0;
-    while place < memory.len() {
+    for place in 0..memory.len() {
         memory[place] = word_at(words, place);
-        place += 1;
     }
 }

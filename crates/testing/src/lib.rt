@@ -33,6 +33,7 @@ impl TestWord {
         TestWord { word: 0 }
     }
 
+    // by name, as a CSR's bits are
     pub fn pulses_inputs(self) -> bool
         ensures { result ≡ pulses_inputs self }
     {
@@ -72,8 +73,9 @@ impl TestWord {
         let fail3 = bits::bit_at(w, 5);
         let busy = bits::bit_at(w, 8);
         let inhibit = bits::bit_at(w, 9);
+        let lines = bits::mask8([strobe, pass2, fail2, pass3, fail3, busy, inhibit, false]);
         Lines {
-            word: bits::mask8([strobe, pass2, fail2, pass3, fail3, busy, inhibit, false]),
+            word: u32::from(lines),
         }
     }
 

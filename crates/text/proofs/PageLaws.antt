@@ -1,15 +1,16 @@
 -- Laws of the page: how texts written one after the other are one text.
 --     write_append     a text and then another are the one followed by the other
---     write_4, write_5 .. for four and five texts
---     write_none, write_hex   no text, and the digits of a word one by one
+--     write_next       a text written byte by byte
+--     write_hex        the digits of a word one by one
 --     hex_length       as many digits as are asked for
 --     power_of_digits  the code's shift by 4 bits a digit is a division by 16 a digit
 -- Assumes nothing.
-use Prim.Native.Nat.{ℕ, zero, suc, ◌-◌, ◌*◌, ◌/◌, ◌%◌, ◌^◌, ◌<◌, ◌≤◌}
+use Prim.Native.Nat.{ℕ, zero, suc, ◌+◌, ◌-◌, ◌*◌, ◌/◌, ◌%◌, ◌^◌, ◌<◌}
 use mathlib.Core.Path.{◌≡◌, refl, ap}
 use mathlib.Core.List.{List, [], ◌∷◌, ◌++◌}
 use native.Mathlib.Omega.{arith}
-use lib.ListN.{length}
+use lib.ListN.{length, take, get_or}
+use Rattle.std.proofs.lemmas.List.{take_more}
 use Rattle.text.specs.Text.{hex_digit, hex}
 use Rattle.text.specs.Page.{Page, write, write_byte}
 
@@ -18,12 +19,10 @@ unfolding write
 write_append [] b p = refl
 write_append (c ∷ a) b p = write_append a b (write_byte c p)
 
-pub write_4 : (a b c d : List ℕ) (p : Page) → write (a ++ (b ++ (c ++ d))) p ≡ write d (write c (write b (write a p)))
-write_4 a b c d p = rw (write_append a (b ++ (c ++ d)) p, write_append b (c ++ d), write_append c d)
-
-pub write_5 : (a b c d e : List ℕ) (p : Page) →
-    write (a ++ (b ++ (c ++ (d ++ e)))) p ≡ write e (write d (write c (write b (write a p))))
-write_5 a b c d e p = rw (write_append a (b ++ (c ++ (d ++ e))) p, write_4 b c d e)
+-- one byte more of a text
+pub write_next : (bs : List ℕ) (i : ℕ) (p : Page) → i < length bs →
+    write (take (i + 1) bs) p ≡ write (get_or bs i 0 ∷ []) (write (take i bs) p)
+write_next bs i p h = rw (take_more bs i 0 h, write_append) refl
 
 -- ---- digits
 
@@ -34,11 +33,6 @@ write_hex zero v p h = absurd (omega arith)
 write_hex (suc n) v p h =
     let e : suc n - 1 ≡ n = omega arith in
     rw e refl
-
-pub write_none : (n v : ℕ) (p : Page) → n ≤ 0 → write (hex n v) p ≡ p
-unfolding hex write
-write_none zero v p h = refl
-write_none (suc n) v p h = absurd (omega arith)
 
 pub hex_length : (n v : ℕ) → length (hex n v) ≡ n
 unfolding hex

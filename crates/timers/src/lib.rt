@@ -6,7 +6,7 @@ ghost use Rattle.std.specs.Prelude.{◌≡◌};
 ghost use Rattle.timers.specs.Timers.{count40_ticks_of, count20_ticks_of, fresh_of, is_reached};
 ghost use Rattle.timers.specs.Timers.{written_of, stored_of, is_late_due, front_test_of, clear_count_of};
 
-// T1–T4: counts of 40 ns.
+// Two types, not one with a parameter: document 01, "Choosing the form by place", has them so. T1–T4: counts of 40 ns.
 #[derive(Clone, Copy)]
 pub struct Count40(pub u16);
 
@@ -63,48 +63,47 @@ impl Timers {
     }
 
     // [Widths.2] a value is cut to its timer's width
+    #[tactic(auto, unfolding(crate::specs::Timers::written_of))]
     pub fn written(self, n: u32, value: u32) -> Timers
         ensures { result ≡ written_of n value self }
     {
         let count40 = Count40((value % 65536) as u16);
         let count20 = Count20((value % 256) as u8);
-        let mut next = self;
-        if n == 1 {
-            next.t1 = count40;
-            return next;
+        match n {
+            1 => Timers {
+                t1: count40,
+                ..self
+            },
+            2 => Timers {
+                t2: count40,
+                ..self
+            },
+            3 => Timers {
+                t3: count40,
+                ..self
+            },
+            4 => Timers {
+                t4: count40,
+                ..self
+            },
+            _ => Timers {
+                t5: count20,
+                ..self
+            },
         }
-        if n == 2 {
-            next.t2 = count40;
-            return next;
-        }
-        if n == 3 {
-            next.t3 = count40;
-            return next;
-        }
-        if n == 4 {
-            next.t4 = count40;
-            return next;
-        }
-        next.t5 = count20;
-        next
     }
 
+    #[tactic(auto, unfolding(crate::specs::Timers::stored_of))]
     pub fn stored(self, n: u32) -> u32
         ensures { result ≡ stored_of n self }
     {
-        if n == 1 {
-            return self.t1.0 as u32;
+        match n {
+            1 => self.t1.0 as u32,
+            2 => self.t2.0 as u32,
+            3 => self.t3.0 as u32,
+            4 => self.t4.0 as u32,
+            _ => self.t5.0 as u32,
         }
-        if n == 2 {
-            return self.t2.0 as u32;
-        }
-        if n == 3 {
-            return self.t3.0 as u32;
-        }
-        if n == 4 {
-            return self.t4.0 as u32;
-        }
-        self.t5.0 as u32
     }
 
     // [Main.6] used: CSR bit 6

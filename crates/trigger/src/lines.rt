@@ -31,6 +31,7 @@ impl Inputs {
     }
 }
 
+// Each line by its name; one function with a bit's number is `bits::bit_at`.
 impl Lines {
     pub fn has_strobe(self) -> bool
         ensures { result ≡ has_strobe self }

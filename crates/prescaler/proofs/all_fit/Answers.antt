@@ -1,10 +1,7 @@
--- `prescaler::all_fit` meets its contract: the eight tests are those of the eight inputs, one for one. Assumes
--- nothing.
-use Rattle.bits.specs.Bits.{every}
-use Rattle.prescaler.specs.Prescaler.{all_fit_of}
-use mathlib.Core.Path.{refl}
+-- `prescaler::all_fit` meets its contract (`fit_by_halves`). Assumes nothing.
+use native.Mathlib.Omega.{arith}
+use Rattle.prescaler.proofs.PrescalerChoices.{fit_by_halves}
 use Rattle.prescaler.proofs.all_fit.Goals as goal
 
 pub returns : goal.returns
-unfolding all_fit_of every
-returns c = refl
+returns c = rw (c.are_below.ensures, c.are_below-2.ensures) (fit_by_halves c.args.values (omega arith))

@@ -1,11 +1,6 @@
--- `reader::line_length` meets its contract: a search of the whole rest finds the length of its first line. Assumes
--- nothing.
-use mathlib.Core.Path.{sym, ◌∙◌}
-use Rattle.reader.proofs.ReaderLaws.{found, not_found}
+-- `reader::line_length` meets its contract: the newline that the search finds, or the end (`newline_found`). Assumes nothing.
+use Rattle.reader.proofs.ReaderLaws.{newline_found}
 use Rattle.reader.proofs.line_length.Goals as goal
 
-pub returns-in-Some-clause-value : goal.returns-in-Some-clause-value
-returns-in-Some-clause-value c = found c.args.rest.now _ (sym c.first_newline.ensures ∙ c.in-Some.is)
-
-pub returns-in-None-clause-value : goal.returns-in-None-clause-value
-returns-in-None-clause-value c = not_found c.args.rest.now (sym c.first_newline.ensures ∙ c.in-None.is)
+pub returns-clause-value : goal.returns-clause-value
+returns-clause-value c = rw (c.unwrap_or.ensures, c.first_newline.ensures) (newline_found c.args.rest.now)

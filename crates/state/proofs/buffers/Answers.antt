@@ -4,10 +4,10 @@ use Rattle.branches.specs.Handshakes.{strobes_of, ands_of, ors_of}
 use Rattle.state.specs.State.{state_bits_of, state_byte_of}
 use Rattle.state.proofs.buffers.Goals as goal
 
-pub returns-clause-value : goal.returns-clause-value
+pub returns : goal.returns
 unfolding mask_of tabulate strobes_of ands_of ors_of state_bits_of state_byte_of
-returns-clause-value c = rw (
-  c.mask8.ensures.value,
+returns c = rw (
+  c.mask8.ensures,
   c.is_empty.ensures,
   c.is_active.ensures,
   c.ors-ors.ensures,

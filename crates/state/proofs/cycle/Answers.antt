@@ -3,10 +3,10 @@ use Rattle.bits.specs.Bits.{mask_of}
 use Rattle.state.specs.State.{state_bits_of, state_byte_of}
 use Rattle.state.proofs.cycle.Goals as goal
 
-pub returns-clause-value : goal.returns-clause-value
+pub returns : goal.returns
 unfolding mask_of state_bits_of state_byte_of
-returns-clause-value c = rw (
-  c.mask8.ensures.value,
+returns c = rw (
+  c.mask8.ensures,
   c.is_idle.ensures,
   c.has_inhibit.ensures,
   c.has_front_busy.ensures,

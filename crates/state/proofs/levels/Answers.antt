@@ -3,10 +3,10 @@ use Rattle.bits.specs.Bits.{mask_of}
 use Rattle.state.specs.State.{state_bits_of, state_byte_of}
 use Rattle.state.proofs.levels.Goals as goal
 
-pub returns-clause-value : goal.returns-clause-value
+pub returns : goal.returns
 unfolding mask_of state_bits_of state_byte_of
-returns-clause-value c = rw (
-  c.mask8.ensures.value,
+returns c = rw (
+  c.mask8.ensures,
   c.has_fail3.ensures,
   c.has_pass3.ensures,
   c.has_fail2.ensures,

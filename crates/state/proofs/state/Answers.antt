@@ -6,8 +6,9 @@ use Rattle.state.proofs.state.Goals as goal
 pub returns : goal.returns
 returns c =
     rw (
-      c.handshakes.ensures.value,
-      c.buffers.ensures.value,
-      c.cycle.ensures.value,
-      c.levels.ensures.value,
+      c.from_le_bytes.ensures,
+      c.handshakes.ensures,
+      c.buffers.ensures,
+      c.cycle.ensures,
+      c.levels.ensures,
     ) (state_of_bytes c.args.s)

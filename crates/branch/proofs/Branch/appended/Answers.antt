@@ -9,7 +9,7 @@ returns c =
     let len = c.one_more_if.ensures in
     let words = c.select.ensures in
     let longer = c.put-longer.ensures in
-    let word = c.word.ensures in
-    let loads = c.is_word.ensures in
+    let word = c.unwrap_or.ensures in
+    let loads = c.is_some.ensures in
     let free = c.has_free_place-free.ensures in
     rw (len, words, longer, word, loads, free) (appended_by_choices a.load a.self)

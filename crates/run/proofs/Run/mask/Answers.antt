@@ -5,13 +5,13 @@ use Rattle.run.proofs.Run.mask.Goals as goal
 pub returns : goal.returns
 returns c =
     rw (
-      c.part-4.ensures,
+      c.select-4.ensures,
       c.holds-4.ensures,
-      c.part-3.ensures,
+      c.select-3.ensures,
       c.holds-3.ensures,
-      c.part-2.ensures,
+      c.select-2.ensures,
       c.holds-2.ensures,
-      c.part.ensures,
+      c.select.ensures,
       c.holds.ensures,
     )
     (bytes_are_mask _)

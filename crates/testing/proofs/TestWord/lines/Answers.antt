@@ -8,7 +8,8 @@ pub returns : goal.returns
 unfolding lines_of bits.mask_of
 returns c =
     rw (
-      c.mask8.ensures.value,
+      c.from.ensures,
+      c.mask8-lines.ensures,
       c.bit_at-inhibit.ensures,
       c.bit_at-busy.ensures,
       c.bit_at-fail3.ensures,
