@@ -33,6 +33,7 @@ fn after_csr(s: Supervisor, w: CsrWrite) -> Supervisor
     }
 }
 
+#[tactic(auto, unfolding(crate::specs::Access::csr_written_of))]
 fn csr_written(s: Supervisor, value: u32) -> Supervisor
     ensures { result ≡ csr_written_of value s }
 {
@@ -49,6 +50,7 @@ fn roc_written(s: Supervisor, value: u32) -> Supervisor
 }
 
 // [Registers.2] a write to one of registers 1–16; [Bytes.4a] loads: it has BYTE(3)
+#[tactic(auto, unfolding(crate::specs::Access::setting_written_of))]
 fn setting_written(s: Supervisor, setting: Setting, loads: bool, value: u32) -> Supervisor
     ensures { result ≡ setting_written_of setting loads value s }
 {
@@ -111,6 +113,7 @@ fn test_written(s: Supervisor, value: u32) -> Supervisor
 }
 
 // [CSRWrite.3] a register write that is carried out; it is not given the memory
+#[tactic(auto, unfolding(crate::specs::Access::written_of))]
 pub fn written(s: Supervisor, register: Register, loads: bool, value: u32) -> Supervisor
     ensures { result ≡ written_of register loads value s }
 {
@@ -129,6 +132,7 @@ pub fn written(s: Supervisor, register: Register, loads: bool, value: u32) -> Su
     }
 }
 
+#[tactic(auto, unfolding(crate::specs::Access::setting_of))]
 fn setting_value(s: Supervisor, setting: Setting) -> u32
     ensures { result ≡ setting_of setting s }
 {
@@ -143,6 +147,7 @@ fn setting_value(s: Supervisor, setting: Setting) -> u32
 }
 
 // [Bytes.3a] where a write takes the bytes that it lacks from; [Bytes.3b] the CSR's count as 0, as TEST's do
+#[tactic(auto, unfolding(crate::specs::Access::base_of))]
 fn base(s: Supervisor, register: Register) -> u32
     ensures { result ≡ base_of register s }
 {
@@ -165,6 +170,7 @@ pub fn merged(s: Supervisor, register: Register, run: Run, value: u32) -> u32
 }
 
 // [Bytes.5a] the record after a read; latches: it has BYTE(3)
+#[tactic(auto, unfolding(crate::specs::Access::after_read_of))]
 pub fn after_read(s: Supervisor, register: Register, latches: bool) -> Supervisor
     ensures { result ≡ after_read_of register latches s }
 {
@@ -185,6 +191,7 @@ pub fn after_read(s: Supervisor, register: Register, latches: bool) -> Superviso
 }
 
 // [Declines.3b] the stored value; [State.8a] [Bytes.5b] of a scaler the value last latched; [Test.5b] TEST is not read
+#[tactic(auto, unfolding(crate::specs::Access::shown_of))]
 pub fn shown(s: Supervisor, register: Register) -> u32
     ensures { result ≡ shown_of register s }
 {

@@ -43,8 +43,8 @@ fn words_of(a: u64, b: u64, c: u64) -> [u16; 12] {
     array::from_fn(|i| short_of(numbers[i / 4], (i % 4) as u32))
 }
 
-// One call, by its number in the C interface: 0 register write, 1 register read, 2 memory write, 3 memory read, 4 tick, 6 and 7 register write and read by a
-// run of bytes, 8 a fill of the memory, any other fresh.
+// One call, by its number in the C interface: 0 register write, 1 register read, 2 memory write, 3 memory read, 4 tick, 6 and 7
+// register write and read by a run of bytes, 8 a fill of the memory, any other fresh.
 fn reply_to(s: Supervisor, memory: &mut [u16], kind: u64, a: u64, b: u64, c: u64) -> Reply {
     match kind {
         0 => write_reply(calls::write_register(s, word_of(a), word_of(b))),

@@ -1,6 +1,6 @@
 // The STATE register, made of its four bytes (document 02, N2). The definitions are in specs/State.antt, where each bit has
 // its name.
-#![tactic(auto)]
+#![tactic(auto, using(crate::proofs::StateLaws::state_of_bytes), unfolding(bits::specs::Bits::mask_of, bits::specs::Bits::tabulate, branches::specs::Handshakes::strobes_of, branches::specs::Handshakes::ands_of, branches::specs::Handshakes::ors_of, crate::specs::State::state_bits_of, crate::specs::State::state_byte_of))]
 
 ghost use Rattle.std.specs.Prelude.{◌≡◌, ◌<◌};
 ghost use Rattle.state.specs.State.{state_of, state_byte_of};

@@ -52,6 +52,7 @@ fn load_of(outcome: Outcome) -> Slot
 }
 
 // [Answer.1] the next record and the answer, from the steps of the two parts
+#[tactic(auto, unfolding(crate::specs::Supervisor::joined_of))]
 fn joined(c: CoreStep, r: ReadoutStep) -> Ticked
     ensures { result ≡ joined_of c r }
 {
@@ -73,6 +74,7 @@ fn joined(c: CoreStep, r: ReadoutStep) -> Ticked
 
 impl Supervisor {
     // [Registers.4] [Declines.6] never declined
+    #[tactic(auto, unfolding(crate::specs::Supervisor::fresh_of))]
     pub fn fresh() -> Supervisor
         ensures { result ≡ fresh_of module_branches }
     {
@@ -108,6 +110,7 @@ impl Supervisor {
     }
 
     // [CSRWrite.1] INITIALIZE
+    #[tactic(auto, unfolding(crate::specs::Supervisor::fresh_of, crate::specs::Supervisor::initialized_of))]
     pub fn initialized(self) -> Supervisor
         ensures { result ≡ initialized_of self }
     {
@@ -118,6 +121,7 @@ impl Supervisor {
     }
 
     // [CSRWrite.2d] RESET
+    #[tactic(auto, unfolding(crate::specs::Supervisor::reset_of))]
     pub fn reset(self) -> Supervisor
         ensures { result ≡ reset_of self }
     {
@@ -128,6 +132,7 @@ impl Supervisor {
     }
 
     // [Active.1]
+    #[tactic(auto, unfolding(crate::specs::Supervisor::is_active_of))]
     pub fn is_active(self) -> bool
         ensures { result ≡ is_active_of self }
     {
@@ -135,6 +140,7 @@ impl Supervisor {
     }
 
     // 01 calls such a record spoiled
+    #[tactic(auto, unfolding(crate::specs::Supervisor::is_spoiled_of))]
     pub fn is_spoiled(self) -> bool
         ensures { result ≡ is_spoiled_of self }
     {
@@ -143,6 +149,7 @@ impl Supervisor {
         !(self.readout.is_well_formed(eight) & core.is_sound())
     }
 
+    #[tactic(auto, unfolding(crate::specs::Supervisor::core_step_of))]
     fn core_step(self, memory: &[u16], x: Inputs) -> CoreStep
         ensures { result ≡ core_step_of memory.now x self }
     {
@@ -154,6 +161,7 @@ impl Supervisor {
         core.step(x, memory, room, empty)
     }
 
+    #[tactic(auto, unfolding(crate::specs::Supervisor::readout_step_of))]
     fn readout_step(self, x: Inputs, outcome: Outcome) -> ReadoutStep
         ensures { result ≡ readout_step_of x outcome self }
     {
@@ -162,6 +170,7 @@ impl Supervisor {
     }
 
     // a tick that runs; x are the inputs in force
+    #[tactic(auto, unfolding(crate::specs::Supervisor::ran_of))]
     fn ran(self, memory: &[u16], x: Inputs) -> Ticked
         ensures { result ≡ ran_of memory.now x self }
     {
@@ -172,6 +181,7 @@ impl Supervisor {
     }
 
     // [Test.2] [Test.6]
+    #[tactic(auto, unfolding(crate::specs::Supervisor::in_force_of))]
     fn in_force(self, x: Inputs) -> Inputs
         ensures { result ≡ in_force_of x self }
     {
@@ -181,6 +191,7 @@ impl Supervisor {
     }
 
     // [Test.7a] [Test.8a]
+    #[tactic(auto, unfolding(crate::specs::Supervisor::is_held_of))]
     fn is_held(self) -> bool
         ensures { result ≡ is_held_of self }
     {
@@ -190,6 +201,7 @@ impl Supervisor {
     }
 
     // [Test.7a] [Test.7b] a tick that does not run
+    #[tactic(auto, unfolding(crate::specs::Supervisor::held_of))]
     fn held(self, x: Inputs) -> Ticked
         ensures { result ≡ held_of x self }
     {
@@ -207,6 +219,7 @@ impl Supervisor {
     }
 
     // The tick of a record that is not spoiled, with a whole memory and inputs in range: the declines are in calls.
+    #[tactic(auto, unfolding(crate::specs::Supervisor::ticked_of))]
     pub fn ticked(self, memory: &[u16], x: Inputs) -> Ticked
         ensures { result ≡ ticked_of memory.now x self }
     {
