@@ -62,7 +62,7 @@ pub fn has_only(word: u32, mask: u32) -> bool
 
 // [Registers.1] [Split.2b] register 10's layout, which the acknowledges share
 // [Split.2a] by shifts and masks, not by `to_le_bytes`; no other place takes such a word apart
-#[tactic(auto, unfolding(crate::specs::Bits::tabulate))]
+#[tactic(auto, using(crate::proofs::BytesLaws::shift_is_byte), unfolding(crate::specs::Bits::tabulate))]
 pub fn bytes(word: u32) -> [u8; 4]
     ensures { result ≡ bytes_of word }
 {

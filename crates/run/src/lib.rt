@@ -38,7 +38,7 @@ impl Run {
     }
 
     // [Bytes.11] neither empty nor past the last byte; without the sum of the two, which might not fit
-    #[tactic(auto, unfolding(crate::specs::Run::is_run_of))]
+    #[tactic(auto, using(crate::proofs::RunLaws::rest_is_within, crate::proofs::RunLaws::past_is_no_run), unfolding(crate::specs::Run::is_run_of))]
     pub fn is_run(self) -> bool
         ensures { result ≡ is_run_of self }
     {
@@ -57,7 +57,7 @@ impl Run {
     }
 
     // BYTE(b) is one of the run's
-    #[tactic(auto, unfolding(crate::specs::Run::holds_byte))]
+    #[tactic(auto, using(crate::proofs::RunLaws::nth_is_held), unfolding(crate::specs::Run::holds_byte))]
     pub fn holds(self, b: u32) -> bool
         ensures { result ≡ holds_byte self b }
     {
