@@ -35,6 +35,9 @@ pub struct Line {
 
 // ---- the fields of a line
 
+// [Console.3] what parts the fields
+const TAB: u8 = b'\t';
+
 // The number that some digits write, the highest first.
 #[tactic(auto, using(crate::proofs::FieldLaws::digits_none, crate::proofs::FieldLaws::digits_next, crate::proofs::FieldLaws::digits_stop, crate::proofs::FieldLaws::number_none, crate::proofs::FieldLaws::number_next))]
 fn number(digits: &[u8]) -> Option<u32>
@@ -58,7 +61,7 @@ fn field(rest: &[u8], digits: Digits) -> Option<(u32, &[u8])>
 {
     let (tab, rest) = rest.split_first()?;
     let (digits, rest) = rest.split_at_checked(digits.count as usize)?;
-    if *tab != b'\t' {
+    if *tab != TAB {
         return None;
     }
     let value = number(digits)?;

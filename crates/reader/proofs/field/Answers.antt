@@ -9,5 +9,5 @@ returns-clause-found c =
     let split = c.in_ok-digits.ensures.cases in
     let read = c.in_ok-value.ensures in
     rw (tab.0, split.2)
-    (field_found c.in_ok-tab.tab.now c.in_ok-tab.rest.now n c.in_ok-value.value c.if-tab-ne9.false split.0
+    (field_found c.in_ok-tab.tab.now c.in_ok-tab.rest.now n c.in_ok-value.value c.if-tab-ne-TAB.false split.0
     (rw (← split.1, ← split.3) read.value.0) (rw (← split.1, ← split.3) read.value.1) (rw (← split.3) read.upper_bound))
