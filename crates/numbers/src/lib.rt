@@ -77,6 +77,9 @@ fn put_all(out: &mut [u64], place: usize, numbers: &[u64]) {
     }
 }
 
+// Two rows of four, each begun anew.
 pub fn put_eight(out: &mut [u64], place: usize, n: [u64; 8]) {
-    put_all(out, place, &n);
+    let first = place % 4294967296;
+    put_all(out, first, &n[..4]);
+    put_all(out, first + 4, &n[4..]);
 }
