@@ -1,6 +1,8 @@
 // The calls on plain numbers, for reference/compare to link: a record and a list of calls go in as numbers, and the
-// answers and the next record come out. No contract is made here; the functions are proved safe and ending.
+// answers and the next record come out. The one contract here says how many calls are run; all functions are proved safe and ending.
 #![tactic(auto)]
+
+ghost use Rattle.std.specs.Prelude.{◌≡◌, ◌/◌, length};
 
 use numbers::{put_eight, put_record, record_in};
 use run::Run;
@@ -70,9 +72,12 @@ pub extern "C" fn run_calls(
     memory: &mut [u16],
     calls: &[u64],
     answers: &mut [u64],
-) -> u64 {
+) -> u64
+    ensures { result ≡ length calls.now / 4 }
+{
     let mut s = record_in(record);
     let count = calls.len() / CALL_NUMBERS;
+    let mut ran: u64 = 0;
     for i in 0..count {
         let at = i * CALL_NUMBERS;
         let r = reply_to(
@@ -85,7 +90,8 @@ pub extern "C" fn run_calls(
         );
         s = r.next;
         put_eight(answers, i % 134217728 * ANSWER_NUMBERS, r.numbers);
+        ran += 1;
     }
     put_record(record, s);
-    count as u64
+    ran
 }

@@ -1,6 +1,6 @@
 // The loop that reference/bench measures: ticks by the public call, over a table of inputs that the caller lends. It is
 // a crate of its own, so that the program has one call of the tick and the compiler puts it into the loop.
-// No contract says what the sum is; reference/bench compares it with the model's.
+// No contract says what the sum is; reference/bench compares it with the model's. That n ticks are run is proved in the loop.
 #![tactic(auto)]
 
 use branch::{Branch, Slot};
@@ -200,13 +200,18 @@ pub extern "C" fn run_ticks(n: u64, memory: &[u16], table: &[u64]) -> u64 {
     }
     let mut s = record_in(table);
     let mut sum: u64 = 0;
+    // how many ticks are run: n, none after the last and none left out
+    let mut ran: u64 = 0;
     for i in 0..n {
+        prove!(i < n);
         let packed = number_at(table, (i % 16384) as usize);
         let r = calls::tick(s, memory, inputs_in(packed));
         let answer = r.answer;
         // the record before the sum: the other way round a tick takes 34 instructions more
         s = r.next;
         sum = folded(sum, answer);
+        ran += 1;
     }
+    prove!(ran == n);
     closed(sum, s)
 }
