@@ -20,7 +20,10 @@ const REGISTER_DIGITS: Digits = Digits { count: 8 };
 
 const WORD_DIGITS: Digits = Digits { count: 4 };
 
+// The three below are inlined: else the record goes through memory for each line, and a script of register reads takes 1.4 times as long.
+
 // [Console.5] what a write leaves, its answer printed
+#[inline(always)]
 fn wrote(s: &mut Supervisor, page: &mut Page, done: Done<Result<(), Decline>>)
     ensures next_value { s.new ≡ done.next }
     ensures printed { Wrote (reply_text 0 (verdict_reply done.answer)) page.old page.new }
@@ -30,6 +33,7 @@ fn wrote(s: &mut Supervisor, page: &mut Page, done: Done<Result<(), Decline>>)
 }
 
 // [Console.5] what a read leaves, its value printed in so many digits
+#[inline(always)]
 fn gave(s: &mut Supervisor, page: &mut Page, digits: Digits, done: Done<Result<u32, Decline>>)
     ensures next_value { s.new ≡ done.next }
     ensures printed { Wrote (reply_text digits.count (reading_reply done.answer)) page.old page.new }
@@ -39,6 +43,7 @@ fn gave(s: &mut Supervisor, page: &mut Page, digits: Digits, done: Done<Result<u
 }
 
 // [Console.7] what a tick leaves, its fields printed
+#[inline(always)]
 fn ran(s: &mut Supervisor, page: &mut Page, done: Done<Result<Answer, Decline>>)
     ensures next_value { s.new ≡ done.next }
     ensures printed { Wrote (reply_text 0 (tick_reply done.answer)) page.old page.new }
