@@ -77,7 +77,7 @@ fn put_all(out: &mut [u64], place: usize, numbers: &[u64]) {
     }
 }
 
-// Two rows of four, each begun anew.
+// Two rows of four: the second too begins at a place below 2^32, as every row does.
 pub fn put_eight(out: &mut [u64], place: usize, n: [u64; 8]) {
     let first = place % 4294967296;
     put_all(out, first, &n[..4]);
